@@ -1,0 +1,5 @@
+pub mod Bits
+pub mod Examples
+pub mod Loops
+pub mod Members
+pub mod Unique

@@ -1,0 +1,191 @@
+-- Sets by their members: what the machine's words have as members, and that a word is its members.
+use mathlib.Core.Path.{_≡_, refl, sym, ap, _∙_}
+use mathlib.Core.Bool.{Bool, true, false, _&&_, _||_, not, cond}
+use mathlib.Core.Logic.{⊎-elim}
+use Prim.Native.Nat.{ℕ, zero, suc, _+_, _-_, _*_, _/_, _%_, _^_, _≤_, _<_, min, max}
+use native.Mathlib.Nat.{eq-or-lt-of-le, le-of-suc-le-suc, one-mul, mod-eq-of-lt, lt-of-le-of-lt}
+use native.Mathlib.Omega.{arith}
+use lib.Dec.{eqb, ltb}
+use lib.Pow.{pow-lt, shr-le, shr-shr}
+use lib.Bits.{bitAnd, bitOr, and-lt, or-lt, or-shifted-r}
+use borrow.Author.Tests.{eqb-true, eqb-false, eq-eqb, ne-eqb, lt-ltb, le-ltb, ltb-true, ltb-false, not-true}
+use Rattle.sets.specs.Loops.{all}
+use Rattle.sets.specs.Sets.{bit, has, collect, Within, Apart, Below, union, minus, insert}
+use Rattle.sets.proofs.Bits.{bit-lt, bit-and, bit-or, bit-shr, ext, bit-zero, bit-high, bit-pow-same, bit-pow-other, bit-not}
+use Rattle.sets.proofs.Loops.{bool-eq, all-true, true-all, or-false, or-true}
+
+-- ---- a word is its members
+
+-- what holds of 0 and of 1 holds of every digit
+digit : (P : ℕ → Type 0) → P 0 → P 1 → (x : ℕ) → x < 2 → P x
+digit P p q zero h = p
+digit P p q (suc zero) h = q
+digit P p q (suc (suc x)) h = absurd (omega arith)
+
+-- of two digits: f of them is 1 exactly where g of the tests says so
+digits : (f : ℕ → ℕ → ℕ) (g : Bool → Bool → Bool)
+    → eqb (f 0 0) 1 ≡ g false false → eqb (f 0 1) 1 ≡ g false true → eqb (f 1 0) 1 ≡ g true false → eqb (f 1 1) 1 ≡ g true true
+    → (a b k : ℕ) → eqb (f (bit a k) (bit b k)) 1 ≡ g (has a k) (has b k)
+digits f g e00 e01 e10 e11 a b k =
+    digit (λ x. eqb (f x (bit b k)) 1 ≡ g (eqb x 1) (has b k))
+    (digit (λ y. eqb (f 0 y) 1 ≡ g false (eqb y 1)) e00 e01 (bit b k) (bit-lt b k))
+    (digit (λ y. eqb (f 1 y) 1 ≡ g true (eqb y 1)) e10 e11 (bit b k) (bit-lt b k))
+    (bit a k) (bit-lt a k)
+
+has-bit : (a b k : ℕ) → has a k ≡ has b k → bit a k ≡ bit b k
+has-bit a b k =
+    digit (λ x. eqb x 1 ≡ has b k → x ≡ bit b k)
+    (digit (λ y. false ≡ eqb y 1 → 0 ≡ y) (λ e. refl) (λ e. cc) (bit b k) (bit-lt b k))
+    (digit (λ y. true ≡ eqb y 1 → 1 ≡ y) (λ e. cc) (λ e. refl) (bit b k) (bit-lt b k))
+    (bit a k) (bit-lt a k)
+
+pub same-members : (n a b : ℕ) → a < 2 ^ n → b < 2 ^ n → ((k : ℕ) → k < n → has a k ≡ has b k) → a ≡ b
+same-members n a b ha hb h = ext n a b ha hb (λ k l. has-bit a b k (h k l))
+
+-- ---- the members of what the machine computes
+
+pub has-and : (a b k : ℕ) → has (bitAnd a b) k ≡ (has a k && has b k)
+has-and a b k = ap (λ (x : ℕ). eqb x 1) (bit-and a b k) ∙ digits min _&&_ refl refl refl refl a b k
+
+pub has-or : (a b k : ℕ) → has (bitOr a b) k ≡ (has a k || has b k)
+has-or a b k = ap (λ (x : ℕ). eqb x 1) (bit-or a b k) ∙ digits max _||_ refl refl refl refl a b k
+
+pub has-not : (s k : ℕ) → s < 2 ^ 64 → k < 64 → has (2 ^ 64 - 1 - s) k ≡ not (has s k)
+has-not s k hs l =
+    ap (λ (x : ℕ). eqb x 1) (bit-not 64 s k hs l) ∙ digits (λ x y. 1 - x) (λ x y. not x) refl refl refl refl s s k
+
+pub has-pow : (j k : ℕ) → has (2 ^ j) k ≡ eqb k j
+has-pow j k = go (eqb k j) refl
+  where
+    go : (b : Bool) → eqb k j ≡ b → has (2 ^ j) k ≡ b
+    go true e = ap (has (2 ^ j)) (eqb-true k j e) ∙ ap (λ (x : ℕ). eqb x 1) (bit-pow-same j)
+    go false e = ap (λ (x : ℕ). eqb x 1) (bit-pow-other j k (eqb-false k j e))
+
+pub has-zero : (k : ℕ) → has 0 k ≡ false
+has-zero k = ap (λ (x : ℕ). eqb x 1) (bit-zero k)
+
+pub has-high : (n s k : ℕ) → s < 2 ^ n → n ≤ k → has s k ≡ false
+has-high n s k hs l = ap (λ (x : ℕ). eqb x 1) (bit-high n s k hs l)
+
+-- ---- the members of a set that is given by them
+
+pub collect-lt : (p : ℕ → Bool) (n : ℕ) → collect p n < 2 ^ n
+unfolding collect
+collect-lt p zero = omega arith
+collect-lt p (suc n) = go (p n) (collect-lt p n)
+  where
+    go : (b : Bool) → collect p n < 2 ^ n → collect p n + cond b (2 ^ n) 0 < 2 ^ suc n
+    go true h = omega arith
+    go false h = omega arith
+
+-- the highest number put in is an `or`
+put-or : (n s : ℕ) → s < 2 ^ n → s + 2 ^ n ≡ bitOr s (2 ^ n)
+put-or n s h =
+    sym (ap (bitOr s) (sym (one-mul (2 ^ n))) ∙ or-shifted-r 1 n s h ∙ ap (λ (x : ℕ). x + s) (one-mul (2 ^ n)) ∙ omega arith)
+
+pub has-collect : (p : ℕ → Bool) (n k : ℕ) → k < n → has (collect p n) k ≡ p k
+unfolding collect
+has-collect p zero k l = absurd (omega arith)
+has-collect p (suc n) k l =
+    ⊎-elim (λ e. ap (has (collect p n + cond (p n) (2 ^ n) 0)) e ∙ new (p n) ∙ ap p (sym e))
+    (λ m. old (p n) m ∙ has-collect p n k m) (eq-or-lt-of-le (le-of-suc-le-suc l))
+  where
+    none-yet : has (collect p n) n ≡ false
+    none-yet = has-high n (collect p n) n (collect-lt p n) (omega arith)
+
+    new : (b : Bool) → has (collect p n + cond b (2 ^ n) 0) n ≡ b
+    new true = ap (λ (x : ℕ). has x n) (put-or n (collect p n) (collect-lt p n)) ∙ has-or (collect p n) (2 ^ n) n ∙ rw (none-yet) (ap (λ (x : ℕ). eqb x 1) (bit-pow-same n))
+    new false = ap (λ (x : ℕ). has x n) (omega arith) ∙ none-yet
+
+    old : (b : Bool) → k < n → has (collect p n + cond b (2 ^ n) 0) k ≡ has (collect p n) k
+    old true m =
+        ap (λ (x : ℕ). has x k) (put-or n (collect p n) (collect-lt p n)) ∙ has-or (collect p n) (2 ^ n) k
+        ∙ ap (λ (b : Bool). has (collect p n) k || b) (has-pow n k ∙ ne-eqb k n (λ e. omega arith)) ∙ or-false (has (collect p n) k)
+    old false m = ap (λ (x : ℕ). has x k) (omega arith)
+
+-- a word with the members that p says is the set that p gives
+by-members : (s : ℕ) (p : ℕ → Bool) → s < 2 ^ 64 → ((k : ℕ) → k < 64 → has s k ≡ p k) → s ≡ collect p 64
+by-members s p hs h = same-members 64 s (collect p 64) hs (collect-lt p 64) (λ k l. h k l ∙ sym (has-collect p 64 k l))
+
+-- ---- the machine's words and tests are the sets and tests by members
+
+pub or-union : (a b : ℕ) → a < 2 ^ 64 → b < 2 ^ 64 → bitOr a b ≡ union a b
+or-union a b ha hb = by-members (bitOr a b) (λ k. has a k || has b k) (or-lt 64 a b ha hb) (λ k l. has-or a b k)
+
+pub and-not-minus : (a b : ℕ) → a < 2 ^ 64 → b < 2 ^ 64 → bitAnd a (2 ^ 64 - 1 - b) ≡ minus a b
+and-not-minus a b ha hb =
+    by-members (bitAnd a (2 ^ 64 - 1 - b)) (λ k. has a k && not (has b k)) (and-lt 64 a (2 ^ 64 - 1 - b) ha (omega arith))
+    (λ k l. has-and a (2 ^ 64 - 1 - b) k ∙ ap (λ (x : Bool). has a k && x) (has-not b k hb l))
+
+pub or-shl-insert : (s k : ℕ) → s < 2 ^ 64 → k < 64 → bitOr s (1 * 2 ^ k % 2 ^ 64) ≡ insert s k
+or-shl-insert s k hs l =
+    ap (bitOr s) (ap (λ (x : ℕ). x % 2 ^ 64) (one-mul (2 ^ k)) ∙ mod-eq-of-lt (pow-lt l))
+    ∙ by-members (bitOr s (2 ^ k)) (λ j. has s j || eqb j k) (or-lt 64 s (2 ^ k) hs (pow-lt l))
+    (λ j m. has-or s (2 ^ k) j ∙ ap (λ (x : Bool). has s j || x) (has-pow k j))
+
+pub insert-beyond : (s k : ℕ) → s < 2 ^ 64 → 64 ≤ k → s ≡ insert s k
+insert-beyond s k hs l =
+    by-members s (λ j. has s j || eqb j k) hs (λ j m. sym (ap (λ (x : Bool). has s j || x) (ne-eqb j k (λ e. omega arith)) ∙ or-false (has s j)))
+
+-- the bool that two words are equal, by their members
+equal : (a b : ℕ) (p : ℕ → Bool) → a < 2 ^ 64 → b < 2 ^ 64
+    → ((k : ℕ) → k < 64 → has a k ≡ has b k → p k ≡ true) → ((k : ℕ) → k < 64 → p k ≡ true → has a k ≡ has b k)
+    → eqb a b ≡ all p 64
+equal a b p ha hb f g =
+    bool-eq (eqb a b) (all p 64)
+    (λ e. true-all p 64 (λ k l. f k l (ap (λ (x : ℕ). has x k) (eqb-true a b e))))
+    (λ e. eq-eqb a b (same-members 64 a b ha hb (λ k l. g k l (all-true p 64 e k l))))
+
+pub and-within : (a b : ℕ) → a < 2 ^ 64 → b < 2 ^ 64 → eqb (bitAnd a b) a ≡ Within a b
+and-within a b ha hb =
+    equal (bitAnd a b) a (λ k. not (has a k) || has b k) (and-lt 64 a b ha hb) ha
+    (λ k l e. to (has a k) (has b k) (sym (has-and a b k) ∙ e)) (λ k l e. has-and a b k ∙ from (has a k) (has b k) e)
+  where
+    to : (x y : Bool) → x && y ≡ x → not x || y ≡ true
+    to true y e = e
+    to false y e = refl
+
+    from : (x y : Bool) → not x || y ≡ true → x && y ≡ x
+    from true y e = e
+    from false y e = refl
+
+pub and-apart : (a b : ℕ) → a < 2 ^ 64 → b < 2 ^ 64 → eqb (bitAnd a b) 0 ≡ Apart a b
+and-apart a b ha hb =
+    equal (bitAnd a b) 0 (λ k. not (has a k && has b k)) (and-lt 64 a b ha hb) (omega arith)
+    (λ k l e. ap not (sym (has-and a b k) ∙ e ∙ has-zero k)) (λ k l e. has-and a b k ∙ not-true _ e ∙ sym (has-zero k))
+
+-- the members from n on are those of what is left after n bits
+has-shr : (s n k : ℕ) → has (s / 2 ^ n) k ≡ has s (n + k)
+has-shr s n k = ap (λ (x : ℕ). eqb x 1) (bit-shr s n k)
+
+pub shr-below : (s n : ℕ) → s < 2 ^ 64 → eqb (s / 2 ^ n) 0 ≡ Below s n
+shr-below s n hs =
+    bool-eq (eqb (s / 2 ^ n) 0) (Below s n)
+    (λ e. true-all named 64 (λ k l. to k (eqb-true (s / 2 ^ n) 0 e) (ltb k n) refl))
+    (λ e. eq-eqb (s / 2 ^ n) 0 (same-members 64 (s / 2 ^ n) 0 (lt-of-le-of-lt (shr-le s n) hs) (omega arith)
+    (λ k l. has-shr s n k ∙ from k (all-true named 64 e (n + k)) (ltb (n + k) 64) refl ∙ sym (has-zero k))))
+  where
+    named : ℕ → Bool
+    named k = not (has s k) || ltb k n
+
+    to : (k : ℕ) → s / 2 ^ n ≡ 0 → (b : Bool) → ltb k n ≡ b → not (has s k) || b ≡ true
+    to k e true f = or-true (not (has s k))
+    to k e false f =
+        let h : n + (k - n) ≡ k = omega (arith, ltb-false k n f) in
+        let g : has s k ≡ false = ap (has s) (sym h) ∙ sym (has-shr s n (k - n)) ∙ ap (λ (x : ℕ). has x (k - n)) e ∙ has-zero (k - n) in
+        rw g
+
+    none : (x : Bool) → not x || false ≡ true → x ≡ false
+    none x e = not-true x (sym (or-false (not x)) ∙ e)
+
+    from : (k : ℕ) → (n + k < 64 → named (n + k) ≡ true) → (b : Bool) → ltb (n + k) 64 ≡ b → has s (n + k) ≡ false
+    from k h true f = none (has s (n + k)) (rw (le-ltb (n + k) n (omega arith)) at (h (ltb-true (n + k) 64 f)))
+    from k h false f = has-high 64 s (n + k) hs (ltb-false (n + k) 64 f)
+
+pub all-below : (s n : ℕ) → s < 2 ^ 64 → 64 ≤ n → true ≡ Below s n
+all-below s n hs l =
+    sym (true-all (λ k. not (has s k) || ltb k n) 64 (λ k m. ap (λ (b : Bool). not (has s k) || b) (lt-ltb k n (omega arith)) ∙ or-true (not (has s k))))
+
+pub below-shr : (s j n : ℕ) → s < 2 ^ 64 → Below (s / 2 ^ j) n ≡ Below s (j + n)
+below-shr s j n hs =
+    sym (shr-below (s / 2 ^ j) n (lt-of-le-of-lt (shr-le s j) hs)) ∙ ap (λ (x : ℕ). eqb x 0) (shr-shr s j n) ∙ shr-below s (j + n) hs

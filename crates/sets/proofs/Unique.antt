@@ -1,0 +1,26 @@
+-- Two answers that one statement allows are equal: the general law, and a line for each public function.
+use Prim.Native.Nat.{ℕ}
+use mathlib.Core.Bool.{Bool}
+use mathlib.Core.Path.{_≡_, sym, _∙_}
+use Rattle.sets.specs.Sets.{has, Within, Apart, Below, minus, insert}
+
+pub one-answer : {A : Type 0} {x r q : A} → r ≡ x → q ≡ x → r ≡ q
+one-answer e f = e ∙ sym f
+
+pub is-in-unique : (s k : ℕ) (r q : Bool) → r ≡ has s k → q ≡ has s k → r ≡ q
+is-in-unique s k r q = one-answer
+
+pub is-within-unique : (a b : ℕ) (r q : Bool) → r ≡ Within a b → q ≡ Within a b → r ≡ q
+is-within-unique a b r q = one-answer
+
+pub is-apart-unique : (a b : ℕ) (r q : Bool) → r ≡ Apart a b → q ≡ Apart a b → r ≡ q
+is-apart-unique a b r q = one-answer
+
+pub names-below-unique : (s n : ℕ) (r q : Bool) → r ≡ Below s n → q ≡ Below s n → r ≡ q
+names-below-unique s n r q = one-answer
+
+pub without-unique : (a b r q : ℕ) → r ≡ minus a b → q ≡ minus a b → r ≡ q
+without-unique a b r q = one-answer
+
+pub with-unique : (s k r q : ℕ) → r ≡ insert s k → q ≡ insert s k → r ≡ q
+with-unique s k r q = one-answer

@@ -1,0 +1,28 @@
+-- What a loop over 0, 1, .. has in hand after n turns.
+use mathlib.Core.Bool.{Bool, true, false, _&&_, _||_, cond}
+use Prim.Native.Nat.{ℕ, zero, suc}
+use lib.Dec.{eqb}
+
+-- p holds of every number below n
+unfoldable pub all : (ℕ → Bool) → ℕ → Bool
+all p zero = true
+all p (suc n) = all p n && p n
+
+-- p holds of some number below n
+unfoldable pub some : (ℕ → Bool) → ℕ → Bool
+some p zero = false
+some p (suc n) = some p n || p n
+
+-- the first of two numbers of refusal that is not 0
+abbrev pub orElse : ℕ → ℕ → ℕ
+orElse a b = cond (eqb a 0) b a
+
+-- the first number that is not 0 among f 0, f 1, .. below n, 0 if there is none
+unfoldable pub firstCode : (ℕ → ℕ) → ℕ → ℕ
+firstCode f zero = 0
+firstCode f (suc n) = orElse (firstCode f n) (f n)
+
+-- what s becomes by f 0, f 1, .. in turn, n of them
+unfoldable pub turns : {A : Type 0} → (ℕ → A → A) → A → ℕ → A
+turns f s zero = s
+turns f s (suc n) = f n (turns f s n)

@@ -1,0 +1,42 @@
+-- 64-bit sets: "bit k is number k". Each set and each test is given by its members below 64, and computes on concrete numbers.
+use mathlib.Core.Bool.{Bool, _&&_, _||_, not, cond}
+use Prim.Native.Nat.{ℕ, zero, suc, _+_, _/_, _%_, _^_}
+use lib.Dec.{eqb, ltb}
+use Rattle.sets.specs.Loops.{all}
+
+-- bit k of s, 0 or 1
+abbrev pub bit : ℕ → ℕ → ℕ
+bit s k = s / 2 ^ k % 2
+
+-- k is in the set s
+abbrev pub has : ℕ → ℕ → Bool
+has s k = eqb (s / 2 ^ k % 2) 1
+
+-- the set of the numbers below n of which p holds
+unfoldable pub collect : (ℕ → Bool) → ℕ → ℕ
+collect p zero = 0
+collect p (suc n) = collect p n + cond (p n) (2 ^ n) 0
+
+-- each member of a is one of b
+abbrev pub Within : ℕ → ℕ → Bool
+Within a b = all (λ k. not (has a k) || has b k) 64
+
+-- no number is in both
+abbrev pub Apart : ℕ → ℕ → Bool
+Apart a b = all (λ k. not (has a k && has b k)) 64
+
+-- the set names only numbers below n
+abbrev pub Below : ℕ → ℕ → Bool
+Below s n = all (λ k. not (has s k) || ltb k n) 64
+
+-- what is in a or in b
+abbrev pub union : ℕ → ℕ → ℕ
+union a b = collect (λ k. has a k || has b k) 64
+
+-- what is in a and not in b
+abbrev pub minus : ℕ → ℕ → ℕ
+minus a b = collect (λ k. has a k && not (has b k)) 64
+
+-- s with k
+abbrev pub insert : ℕ → ℕ → ℕ
+insert s k = collect (λ j. has s j || eqb j k) 64
