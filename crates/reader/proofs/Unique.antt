@@ -1,0 +1,23 @@
+-- Two answers that one statement allows are equal, for each public function. `record_at`'s is in framing/Laws.
+use Prim.Native.Nat.{ℕ}
+use mathlib.Core.List.{List}
+use mathlib.Core.Path.{_≡_}
+use Rattle.sets.proofs.Unique.{one-answer}
+use Rattle.reader.specs.Chart.{noChart}
+use Rattle.reader.specs.Held.{heldCode, chartCode}
+use Rattle.reader.specs.Reading.{readChart}
+use Rattle.reader.specs.declared.chart.Chart.{Chart}
+use Rattle.reader.specs.declared.reading.Reading.{Reading}
+
+pub no-chart-unique : (r q : Chart) → r ≡ noChart → q ≡ noChart → r ≡ q
+no-chart-unique r q = one-answer
+
+pub chart-code-unique : (c : Chart) (r q : ℕ) → r ≡ chartCode c → q ≡ chartCode c → r ≡ q
+chart-code-unique c r q = one-answer
+
+pub held-code-unique : (s a t b c : ℕ) (i o f g on off w bs ba bq bd cs cn ce : List ℕ) (r q : ℕ)
+    → r ≡ heldCode s a t b c i o f g on off w bs ba bq bd cs cn ce → q ≡ heldCode s a t b c i o f g on off w bs ba bq bd cs cn ce → r ≡ q
+held-code-unique s a t b c i o f g on off w bs ba bq bd cs cn ce r q = one-answer
+
+pub read-chart-unique : (s : List ℕ) (r q : Reading) → r ≡ readChart s → q ≡ readChart s → r ≡ q
+read-chart-unique s r q = one-answer

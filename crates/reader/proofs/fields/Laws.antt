@@ -1,0 +1,30 @@
+-- The qualifiers' timing by ranges.
+use Prim.Native.Nat.{ℕ, _≤_, _<_}
+use mathlib.Core.Bool.{Bool, true, false, _&&_, not, cond}
+use mathlib.Core.Path.{_≡_, refl}
+use lib.Dec.{leb, ltb, eqb}
+use native.Mathlib.Omega.{arith}
+use borrow.Author.Tests.{eqb-true, ne-eqb, lt-leb}
+use Rattle.sets.specs.Loops.{all}
+use Rattle.sets.proofs.Loops.{all-true}
+use Rattle.reader.specs.Fields.{timed, timing}
+
+ranged : ℕ → ℕ
+ranged q = cond (leb 3 q && ltb q 9 && not (eqb q 5)) 1 0
+
+-- one test of all eleven
+pub timing-known : (q : ℕ) → q < 11 → timing q ≡ cond (leb 3 q && ltb q 9 && not (eqb q 5)) 1 0
+unfolding all ranged
+timing-known q h = eqb-true _ _ (all-true (λ k. eqb (timing k) (ranged k)) 11 refl q h)
+
+pub timing-unknown : (q : ℕ) → 11 ≤ q → 2 ≡ timing q
+timing-unknown q h =
+    rw (ne-eqb q 3 (λ e. omega arith), ne-eqb q 4 (λ e. omega arith), ne-eqb q 6 (λ e. omega arith), ne-eqb q 7 (λ e. omega arith), ne-eqb q 8 (λ e. omega arith), lt-leb q 10 (omega arith))
+
+pub timing-timed : (q : ℕ) → eqb (timing q) 1 ≡ timed q
+timing-timed q = go (timed q) (leb q 10)
+  where
+    go : (t k : Bool) → eqb (cond t 1 (cond k 0 2)) 1 ≡ t
+    go true k = refl
+    go false true = refl
+    go false false = refl

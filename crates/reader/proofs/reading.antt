@@ -1,0 +1,4 @@
+pub mod Accepted
+pub mod Examples
+pub mod Kept
+pub mod Laws

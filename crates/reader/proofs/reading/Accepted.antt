@@ -1,0 +1,201 @@
+-- What is true of every accepted reading: it passes the held test, it is zero beyond its counts, and its file has at most 6,436 bytes.
+-- A refused one has the all-zero chart.
+use Prim.Native.Nat.{ℕ, zero, suc, _+_, _≤_}
+use mathlib.Core.List.{List}
+use mathlib.Core.Bool.{Bool, true, false, cond}
+use mathlib.Core.Path.{_≡_, refl, sym, ap, _∙_}
+use lib.IntN.{pos}
+use lib.ListN.{length}
+use lib.Dec.{ltb, eqb}
+use native.Mathlib.Omega.{arith}
+use borrow.Author.Tests.{le-leb, eqb-true, eqb-false, ltb-false}
+use Rattle.sets.specs.Loops.{orElse}
+use Rattle.reader.specs.Fields.{unless}
+use Rattle.reader.specs.Framing.{lengthAt, kindAt, bodyLength, recordNumber}
+use Rattle.reader.specs.Bodies.{bodyAt}
+use Rattle.reader.specs.Chart.{noChart}
+use Rattle.reader.specs.Held.{limitsFit, closingCode, heldCode, chartCode}
+use Rattle.reader.specs.Reading.{refused, accepted, closed, ended, withBody, numberIn, taken, readFrom, readChart}
+use Rattle.reader.specs.declared.bodies.Body.{Body}
+use Rattle.reader.specs.declared.chart.Chart.{Chart}
+use Rattle.reader.specs.declared.reading.Reading.{Reading}
+use Rattle.reader.proofs.framing.Laws.{is-headed, is-known}
+use Rattle.reader.proofs.held.Laws.{Limits}
+use Rattle.reader.proofs.reading.Kept.{Column, Kept, kept-start, kept-step, kept-action, kept-transition, kept-block, kept-case}
+
+-- "zeros beyond its counts"
+pub record Padded (c : Chart) : Type 0 where
+  pub initial : Column 0 64 (c .steps) (c .initial)
+  pub output : Column 0 32 (c .actions) (c .output)
+  pub value : Column (pos 0) 32 (c .actions) (c .value)
+  pub sources : Column 0 64 (c .transitions) (c .sources)
+  pub targets : Column 0 64 (c .transitions) (c .targets)
+  pub on : Column 0 64 (c .transitions) (c .on)
+  pub off : Column 0 64 (c .transitions) (c .off)
+  pub wait : Column 0 64 (c .transitions) (c .wait)
+  pub blockstep : Column 0 256 (c .blocks) (c .blockstep)
+  pub blockaction : Column 0 256 (c .blocks) (c .blockaction)
+  pub qualifier : Column 0 256 (c .blocks) (c .qualifier)
+  pub duration : Column 0 256 (c .blocks) (c .duration)
+  pub casestep : Column 0 64 (c .cases) (c .casestep)
+  pub signal : Column 0 64 (c .cases) (c .signal)
+  pub expected : Column 0 64 (c .cases) (c .expected)
+
+pub record Accepted (s : List ℕ) (r : Reading) : Type 0 where
+  pub place : r .place ≡ 0
+  pub passes : chartCode (r .chart) ≡ 0
+  pub padded : Padded (r .chart)
+  pub short : length s ≤ 6436
+
+-- ---- at the end
+
+both-zero : {a b : ℕ} → a ≡ 0 → b ≡ 0 → orElse a b ≡ 0
+both-zero {a} {b} e f = rw (e) f
+
+limits-hold : (s a t b c : ℕ) → Limits s a t b c → limitsFit s a t b c ≡ true
+limits-hold s a t b c l =
+    rw (le-leb s 64 (l .steps), le-leb a 32 (l .actions), le-leb t 64 (l .transitions), le-leb b 256 (l .blocks), le-leb c 64 (l .cases))
+
+held-zero : (at before : ℕ) (c : Chart) → Kept at before c → closingCode (c .steps) (c .blocks) (c .initial) (c .blockaction) (c .qualifier) ≡ 0 → chartCode c ≡ 0
+unfolding heldCode
+held-zero at before c k z =
+    both-zero (ap (λ (fit : Bool). unless fit 4) (limits-hold _ _ _ _ _ (k .limits)))
+    (both-zero (k .steps-fine) (both-zero (k .actions-fine) (both-zero (k .transitions-fine) (both-zero (k .blocks-fine) (both-zero (k .cases-fine) z)))))
+
+padding : (at before : ℕ) (c : Chart) → Kept at before c → Padded c
+padding at before c k = record {
+  initial = k .initial;
+  output = k .output;
+  value = k .value;
+  sources = k .sources;
+  targets = k .targets;
+  on = k .on;
+  off = k .off;
+  wait = k .wait;
+  blockstep = k .blockstep;
+  blockaction = k .blockaction;
+  qualifier = k .qualifier;
+  duration = k .duration;
+  casestep = k .casestep;
+  signal = k .signal;
+  expected = k .expected;
+}
+
+module _ (s : List ℕ) (at before : ℕ) (c : Chart) (k : Kept at before c) where
+  closes : (m : ℕ) → m ≡ closingCode (c .steps) (c .blocks) (c .initial) (c .blockaction) (c .qualifier) → length s ≤ at + 4
+      → closed m c .code ≡ 0 → Accepted s (closed m c)
+  closes m e l = go (eqb m 0) refl
+    where
+      go : (t : Bool) → eqb m 0 ≡ t → cond t (accepted c) (refused m 0) .code ≡ 0 → Accepted s (cond t (accepted c) (refused m 0))
+      go true q z =
+          let b = k .size in
+          let h = k .limits in
+          record { place = refl; passes = held-zero at before c k (sym e ∙ eqb-true _ _ q); padded = padding at before c k; short = omega arith }
+      go false q z = absurd (eqb-false m 0 q z)
+
+  ends : ended (length s) (at + 4) c .code ≡ 0 → Accepted s (ended (length s) (at + 4) c)
+  ends = go (ltb (at + 4) (length s)) refl
+    where
+      go : (t : Bool) → ltb (at + 4) (length s) ≡ t → cond t (refused 10 (at + 4)) (closed (closingCode (c .steps) (c .blocks) (c .initial) (c .blockaction) (c .qualifier)) c) .code ≡ 0
+          → Accepted s (cond t (refused 10 (at + 4)) (closed (closingCode (c .steps) (c .blocks) (c .initial) (c .blockaction) (c .qualifier)) c))
+      go true e z = let y : _≡_ {A = ℕ} 10 0 = z in absurd (omega arith)
+      go false e z = closes (closingCode (c .steps) (c .blocks) (c .initial) (c .blockaction) (c .qualifier)) refl (ltb-false _ _ e) z
+
+-- ---- one record more
+
+-- what holds of each kind that has a body
+by-kind : (P : ℕ → Type 0) → P 1 → P 2 → P 3 → P 4 → P 5 → (k : ℕ) → 1 ≤ k → k ≤ 5 → P k
+by-kind P a b c d e zero l m = absurd (omega arith)
+by-kind P a b c d e (suc zero) l m = a
+by-kind P a b c d e (suc (suc zero)) l m = b
+by-kind P a b c d e (suc (suc (suc zero))) l m = c
+by-kind P a b c d e (suc (suc (suc (suc zero)))) l m = d
+by-kind P a b c d e (suc (suc (suc (suc (suc zero))))) l m = e
+by-kind P a b c d e (suc (suc (suc (suc (suc (suc k)))))) l m = absurd (omega arith)
+
+kept-on : (s : List ℕ) (at before : ℕ) (c : Chart) → Kept at before c → (k : ℕ) → 1 ≤ k → k ≤ 5 → before ≤ k
+    → numberIn c (bodyAt s k (at + 4)) ≡ 0 → Kept (at + 4 + bodyLength k) k (withBody c (bodyAt s k (at + 4)))
+unfolding bodyAt
+kept-on s at before c h =
+    by-kind (λ k. before ≤ k → numberIn c (bodyAt s k (at + 4)) ≡ 0 → Kept (at + 4 + bodyLength k) k (withBody c (bodyAt s k (at + 4))))
+    (kept-step at before c h _)
+    (kept-action at before c h _ _)
+    (kept-transition at before c h _ _ _ _ _)
+    (kept-block at before c h _ _ _ _)
+    (kept-case at before c h _ _ _)
+
+-- ---- the whole reading
+
+-- one turn, where reading on is accepted only so
+module _ (s : List ℕ) (at before : ℕ) (c : Chart) (k : Kept at before c) (onward : Chart → Reading)
+    (so : (d : Chart) → Kept (at + 4 + lengthAt s at) (kindAt s at) d → onward d .code ≡ 0 → Accepted s (onward d))
+    (b : Body) (q : b ≡ bodyAt s (kindAt s at) (at + 4)) where
+  body : (t : Bool) → eqb (numberIn c b) 0 ≡ t → 0 ≡ recordNumber s at before → (kindAt s at ≡ 0 → ⊥)
+      → cond t (onward (withBody c b)) (refused (numberIn c b) at) .code ≡ 0 → Accepted s (cond t (onward (withBody c b)) (refused (numberIn c b) at))
+  body true e n x z =
+      let h = is-headed s at before n in
+      let w = is-known s at before _ _ _ (record { number = n; headed = h; kind = refl; place = refl; size = refl; some = x }) in
+      let o = kept-on s at before c k (kindAt s at) (w .least) (w .most) (w .later) (rw q at (eqb-true (numberIn c b) 0 e)) in
+      so (withBody c b) (rw (← h .sized, ← q) at o) z
+  body false e n x z = absurd (eqb-false (numberIn c b) 0 e z)
+
+  kind : (t : Bool) → eqb (kindAt s at) 0 ≡ t → 0 ≡ recordNumber s at before
+      → cond t (ended (length s) (at + 4) c) (taken at c b onward) .code ≡ 0 → Accepted s (cond t (ended (length s) (at + 4) c) (taken at c b onward))
+  kind true e n z = ends s at before c k z
+  kind false e n z = body (eqb (numberIn c b) 0) refl n (eqb-false _ _ e) z
+
+  head : (t : Bool) → eqb (recordNumber s at before) 0 ≡ t
+      → cond t (cond (eqb (kindAt s at) 0) (ended (length s) (at + 4) c) (taken at c b onward)) (refused (recordNumber s at before) at) .code ≡ 0
+      → Accepted s (cond t (cond (eqb (kindAt s at) 0) (ended (length s) (at + 4) c) (taken at c b onward)) (refused (recordNumber s at before) at))
+  head true e z = kind (eqb (kindAt s at) 0) refl (sym (eqb-true _ _ e)) z
+  head false e z = absurd (eqb-false (recordNumber s at before) 0 e z)
+
+reads : (f : ℕ) (s : List ℕ) (at before : ℕ) (c : Chart) → Kept at before c → readFrom f s at before c .code ≡ 0 → Accepted s (readFrom f s at before c)
+unfolding readFrom
+reads zero s at before c k z = let y : _≡_ {A = ℕ} 1 0 = z in absurd (omega arith)
+reads (suc f) s at before c k z =
+    head s at before c k (readFrom f s (at + 4 + lengthAt s at) (kindAt s at)) (λ d o y. reads f s (at + 4 + lengthAt s at) (kindAt s at) d o y)
+    (bodyAt s (kindAt s at) (at + 4)) refl (eqb (recordNumber s at before) 0) refl z
+
+pub read-accepted : (s : List ℕ) → readChart s .code ≡ 0 → Accepted s (readChart s)
+read-accepted s z = reads (length s + 1) s 0 0 noChart kept-start z
+
+-- ---- a refused reading
+
+abbrev Clean : Reading → Type 0
+Clean r = (r .code ≡ 0 → ⊥) → r .chart ≡ noChart
+
+clean-either : (t : Bool) (x y : Reading) → Clean x → Clean y → Clean (cond t x y)
+clean-either true x y a b = a
+clean-either false x y a b = b
+
+clean-refused : (n p : ℕ) → Clean (refused n p)
+clean-refused n p z = refl
+
+clean-closed : (n : ℕ) (c : Chart) → Clean (closed n c)
+clean-closed n c = clean-either (eqb n 0) (accepted c) (refused n 0) (λ z. absurd (z refl)) (clean-refused n 0)
+
+clean-ended : (size next : ℕ) (c : Chart) → Clean (ended size next c)
+clean-ended size next c =
+    let n = closingCode (c .steps) (c .blocks) (c .initial) (c .blockaction) (c .qualifier) in
+    clean-either (ltb next size) (refused 10 next) (closed n c) (clean-refused 10 next) (clean-closed n c)
+
+clean-taken : (at : ℕ) (c : Chart) (b : Body) (onward : Chart → Reading) → Clean (onward (withBody c b)) → Clean (taken at c b onward)
+clean-taken at c b onward h =
+    clean-either (eqb (numberIn c b) 0) (onward (withBody c b)) (refused (numberIn c b) at) h (clean-refused (numberIn c b) at)
+
+clean : (f : ℕ) (s : List ℕ) (at before : ℕ) (c : Chart) → Clean (readFrom f s at before c)
+unfolding readFrom
+clean zero s at before c = clean-refused 1 at
+clean (suc f) s at before c =
+    let k = kindAt s at in
+    let b = bodyAt s k (at + 4) in
+    let onward = readFrom f s (at + 4 + lengthAt s at) k in
+    let over = ended (length s) (at + 4) c in
+    clean-either (eqb (recordNumber s at before) 0) (cond (eqb k 0) over (taken at c b onward)) (refused (recordNumber s at before) at)
+    (clean-either (eqb k 0) over (taken at c b onward) (clean-ended (length s) (at + 4) c)
+    (clean-taken at c b onward (clean f s (at + 4 + lengthAt s at) (kindAt s at) (withBody c (bodyAt s (kindAt s at) (at + 4))))))
+    (clean-refused (recordNumber s at before) at)
+
+pub read-refused : (s : List ℕ) → (readChart s .code ≡ 0 → ⊥) → readChart s .chart ≡ noChart
+read-refused s = clean (length s + 1) s 0 0 noChart

@@ -1,0 +1,44 @@
+-- The definitions compute: some files of document 01, read by them.
+use Prim.Native.Nat.{ℕ}
+use mathlib.Core.List.{List, [], _∷_}
+use mathlib.Core.Path.{_≡_, refl}
+use Rattle.sets.specs.Loops.{all, some, firstCode}
+use Rattle.reader.specs.Framing.{recordNumber}
+use Rattle.reader.specs.Fields.{transitionCode}
+use Rattle.reader.specs.Bodies.{bodyAt}
+use Rattle.reader.specs.Chart.{noChart, withStep}
+use Rattle.reader.specs.Held.{someInitial, timedTwice, timedFor, stepsCode, actionsCode, transitionsCode, blocksCode, casesCode, heldCode, chartCode}
+use Rattle.reader.specs.Reading.{refused, accepted, readFrom, readChart}
+
+-- "Empty file: 1, place 0"
+empty-file : readChart [] ≡ refused 1 0
+unfolding readFrom recordNumber
+empty-file = refl
+
+-- one initial step and the end
+one-step : readChart (1 ∷ 0 ∷ 1 ∷ 0 ∷ 1 ∷ 0 ∷ 0 ∷ 0 ∷ 0 ∷ []) ≡ accepted (withStep noChart 1)
+unfolding readFrom recordNumber bodyAt someInitial timedTwice some
+one-step = refl
+
+-- the same with a byte more
+surplus : readChart (1 ∷ 0 ∷ 1 ∷ 0 ∷ 1 ∷ 0 ∷ 0 ∷ 0 ∷ 0 ∷ 0 ∷ []) ≡ refused 10 9
+unfolding readFrom recordNumber bodyAt
+surplus = refl
+
+-- "Chart A (152 bytes)"
+chartA : List ℕ
+chartA =
+    1 ∷ 0 ∷ 1 ∷ 0 ∷ 1 ∷ 1 ∷ 0 ∷ 1 ∷ 0 ∷ 0 ∷ 5 ∷ 0 ∷ 2 ∷ 0 ∷ 0 ∷ 120 ∷ 0 ∷ 0 ∷ 0 ∷ 5 ∷ 0 ∷ 2 ∷ 0 ∷ 0 ∷ 7 ∷ 0 ∷ 0 ∷ 0 ∷
+    36 ∷ 0 ∷ 3 ∷ 0 ∷ 1 ∷ 0 ∷ 0 ∷ 0 ∷ 0 ∷ 0 ∷ 0 ∷ 0 ∷ 2 ∷ 0 ∷ 0 ∷ 0 ∷ 0 ∷ 0 ∷ 0 ∷ 0 ∷ 1 ∷ 0 ∷ 0 ∷ 0 ∷ 0 ∷ 0 ∷ 0 ∷ 0 ∷
+    0 ∷ 0 ∷ 0 ∷ 0 ∷ 0 ∷ 0 ∷ 0 ∷ 0 ∷ 0 ∷ 0 ∷ 0 ∷ 0 ∷ 36 ∷ 0 ∷ 3 ∷ 0 ∷ 2 ∷ 0 ∷ 0 ∷ 0 ∷ 0 ∷ 0 ∷ 0 ∷ 0 ∷ 1 ∷ 0 ∷ 0 ∷ 0 ∷
+    0 ∷ 0 ∷ 0 ∷ 0 ∷ 2 ∷ 0 ∷ 0 ∷ 0 ∷ 0 ∷ 0 ∷ 0 ∷ 0 ∷ 0 ∷ 0 ∷ 0 ∷ 0 ∷ 0 ∷ 0 ∷ 0 ∷ 0 ∷ 244 ∷ 1 ∷ 0 ∷ 0 ∷ 7 ∷ 0 ∷ 4 ∷ 0 ∷
+    1 ∷ 0 ∷ 0 ∷ 0 ∷ 0 ∷ 0 ∷ 0 ∷ 7 ∷ 0 ∷ 4 ∷ 0 ∷ 1 ∷ 1 ∷ 2 ∷ 0 ∷ 0 ∷ 0 ∷ 0 ∷ 7 ∷ 0 ∷ 4 ∷ 0 ∷ 0 ∷ 1 ∷ 1 ∷ 0 ∷ 0 ∷ 0 ∷
+    0 ∷ 3 ∷ 0 ∷ 5 ∷ 0 ∷ 1 ∷ 1 ∷ 1 ∷ 0 ∷ 0 ∷ 0 ∷ 0 ∷ []
+
+chart-a : readChart chartA .code ≡ 0
+unfolding chartA readFrom recordNumber bodyAt transitionCode someInitial timedTwice timedFor all some
+chart-a = refl
+
+chart-a-held : chartCode (readChart chartA .chart) ≡ 0
+unfolding chartA readFrom recordNumber bodyAt transitionCode someInitial timedTwice timedFor all some firstCode stepsCode actionsCode transitionsCode blocksCode casesCode heldCode
+chart-a-held = refl

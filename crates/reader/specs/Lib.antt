@@ -1,0 +1,7 @@
+pub mod Numbers
+pub mod Framing
+pub mod Fields
+pub mod Bodies
+pub mod Chart
+pub mod Held
+pub mod Reading

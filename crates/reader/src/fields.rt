@@ -1,0 +1,136 @@
+// The numbers of refusal of a record's fields, kind by kind: 5, and of transitions 5, 6, 7 in this order.
+ghost use mathlib.Core.Path.{_≡_};
+ghost use Rattle.sets.specs.Loops.{orElse};
+ghost use Rattle.reader.specs.Fields.{timed, timing, unless, stepFits, actionFits, signalExists, signalsExist, transitionFits, transitionCode, blockFits, caseFits};
+use crate::codes::BAD_FIELD;
+use crate::codes::BAD_SIGNALS;
+use crate::codes::BAD_STEPS;
+
+// Waits and durations are at most a day.
+pub(crate) const LONGEST: u32 = 86_400_000;
+
+pub(crate) const UNTIMED: u8 = 0;
+
+pub(crate) const TIMED: u8 = 1;
+
+pub(crate) const UNKNOWN: u8 = 2;
+
+pub(crate) fn timing_of(qualifier: u8) -> u8
+    ensures { λ r. ⌜ r ≡ timing qualifier ⌝ }
+{
+    match qualifier {
+        3..=4 | 6..=8 => TIMED,
+        0..=10 => UNTIMED,
+        _ => UNKNOWN,
+    }
+}
+
+pub(crate) fn is_timed(qualifier: u8) -> bool
+    ensures { λ r. ⌜ r ≡ timed qualifier ⌝ }
+{
+    timing_of(qualifier) == TIMED
+}
+
+// The first of two numbers that is not 0.
+pub(crate) fn or_else(a: u8, b: u8) -> u8
+    ensures { λ r. ⌜ r ≡ orElse a b ⌝ }
+{
+    if a == 0 { b } else { a }
+}
+
+// The number unless the test holds.
+pub(crate) fn unless(ok: bool, code: u8) -> u8
+    ensures { λ r. ⌜ r ≡ unless ok code ⌝ }
+{
+    if ok { 0 } else { code }
+}
+
+pub(crate) fn step_fits(initial: u8) -> bool
+    ensures { λ r. ⌜ r ≡ stepFits initial ⌝ }
+{
+    initial <= 1
+}
+
+pub(crate) fn action_fits(output: u8) -> bool
+    ensures { λ r. ⌜ r ≡ actionFits output ⌝ }
+{
+    output <= 31
+}
+
+// The inputs are signals 0 to 31; a set of signals names actions from its bit 32 on.
+fn signals_exist(signals: u64, actions: usize) -> bool
+    ensures { λ r. ⌜ r ≡ signalsExist signals actions ⌝ }
+{
+    sets::names_below(signals >> 32, actions)
+}
+
+pub(crate) fn transition_fits(
+    steps: usize,
+    actions: usize,
+    sources: u64,
+    targets: u64,
+    on: u64,
+    off: u64,
+    wait: u32,
+) -> bool
+    ensures { λ r. ⌜ r ≡ transitionFits steps actions sources targets on off wait ⌝ }
+{
+    sets::names_below(sources, steps)
+        & sets::names_below(targets, steps)
+        & signals_exist(on, actions)
+        & signals_exist(off, actions)
+        & (wait <= LONGEST)
+}
+
+pub(crate) fn transition_code(
+    steps: usize,
+    actions: usize,
+    sources: u64,
+    targets: u64,
+    on: u64,
+    off: u64,
+    wait: u32,
+) -> u8
+    ensures { λ r. ⌜ r ≡ transitionCode steps actions sources targets on off wait ⌝ }
+{
+    let fits = transition_fits(steps, actions, sources, targets, on, off, wait);
+    let differ = (sources != 0) & (targets != 0) & sets::is_apart(sources, targets);
+    let apart = sets::is_apart(on, off);
+    let field = unless(fits, BAD_FIELD);
+    let ends = unless(differ, BAD_STEPS);
+    let signals = unless(apart, BAD_SIGNALS);
+    or_else(field, or_else(ends, signals))
+}
+
+pub(crate) fn block_fits(
+    steps: usize,
+    actions: usize,
+    step: u8,
+    action: u8,
+    qualifier: u8,
+    duration: u32,
+) -> bool
+    ensures { λ r. ⌜ r ≡ blockFits steps actions step action qualifier duration ⌝ }
+{
+    let timing = timing_of(qualifier);
+    ((step as usize) < steps)
+        & ((action as usize) < actions)
+        & (timing <= TIMED)
+        & (duration <= LONGEST)
+        & ((timing == TIMED) | (duration == 0))
+}
+
+fn signal_exists(signal: u8, actions: usize) -> bool
+    ensures { λ r. ⌜ r ≡ signalExists signal actions ⌝ }
+{
+    if signal < 32 {
+        return true;
+    }
+    ((signal - 32) as usize) < actions
+}
+
+pub(crate) fn case_fits(steps: usize, actions: usize, step: u8, signal: u8, expected: u8) -> bool
+    ensures { λ r. ⌜ r ≡ caseFits steps actions step signal expected ⌝ }
+{
+    ((step as usize) < steps) & (signal < 64) & signal_exists(signal, actions) & (expected <= 1)
+}

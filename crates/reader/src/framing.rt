@@ -1,0 +1,84 @@
+// One record: its head, and where its body stands (document 01, "A manufacturer's tool may take the reader by itself").
+ghost use mathlib.Core.Path.{_≡_};
+ghost use Prim.Native.Nat.{_-_, _≤_};
+ghost use Rattle.reader.specs.Framing.{bodyLength, kindFits, headNumber, Answers};
+use crate::codes::BAD_KIND;
+use crate::codes::BAD_LENGTH;
+use crate::codes::CUT;
+use crate::numbers;
+
+pub enum Next {
+    Record {
+        kind: u16,
+        place: usize,
+        length: usize,
+    },
+    End,
+    Refused {
+        code: u8,
+        place: usize,
+    },
+}
+
+const LENGTHS: [u16; 6] = [0, 1, 5, 36, 7, 3];
+
+// How many bytes are left from a place on: none from one beyond the bytes, however large.
+fn left(n: usize, at: usize) -> usize
+    ensures { λ r. ⌜ r ≡ n - at ⌝ }
+{
+    if at <= n { n - at } else { 0 }
+}
+
+fn kind_fits(kind: u16, before: u16) -> bool
+    ensures { λ r. ⌜ r ≡ kindFits kind before ⌝ }
+{
+    (kind <= 5) & ((kind == 0) | (before <= kind))
+}
+
+fn body_length(kind: u16) -> u16
+    requires { ⌜ kind ≤ 5 ⌝ }
+    ensures { λ r. ⌜ r ≡ bodyLength kind ⌝ }
+{
+    LENGTHS[kind as usize]
+}
+
+fn head_code(length: u16, kind: u16, rest: usize, before: u16) -> u8
+    ensures { λ r. ⌜ r ≡ headNumber length kind rest before ⌝ }
+{
+    if !kind_fits(kind, before) {
+        return BAD_KIND;
+    }
+    if length != body_length(kind) {
+        return BAD_LENGTH;
+    }
+    if rest < length as usize {
+        return CUT;
+    }
+    0
+}
+
+pub fn record_at(bytes: &[u8], at: usize, before: u16) -> Next
+    ensures { λ r. ⌜ Answers r (now (bytes .entry)) at before ⌝ }
+{
+    if left(bytes.len(), at) < 4 {
+        return Next::Refused {
+            code: CUT,
+            place: at,
+        };
+    }
+    let place = at + 4;
+    let length = numbers::u16_at(bytes, at);
+    let kind = numbers::u16_at(bytes, at + 2);
+    let code = head_code(length, kind, bytes.len() - place, before);
+    if code != 0 {
+        return Next::Refused { code, place: at };
+    }
+    if kind == 0 {
+        return Next::End;
+    }
+    Next::Record {
+        kind,
+        place,
+        length: length as usize,
+    }
+}

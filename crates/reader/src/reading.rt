@@ -1,0 +1,126 @@
+// A whole file: record after record into the chart, then what is tested at the end.
+ghost use mathlib.Core.Path.{_≡_};
+ghost use Prim.Native.Nat.{_≤_};
+ghost use Rattle.reader.specs.Reading.{refused, ended, readChart};
+use crate::bodies;
+use crate::bodies::Body;
+use crate::chart::Chart;
+use crate::chart::no_chart;
+use crate::codes::SURPLUS;
+use crate::framing;
+use crate::framing::Next;
+use crate::held;
+
+pub struct Reading {
+    pub code: u8,
+    pub place: usize,
+    pub chart: Chart,
+}
+
+fn refused(code: u8, place: usize) -> Reading
+    ensures { λ r. ⌜ r ≡ refused code place ⌝ }
+{
+    Reading {
+        code,
+        place,
+        chart: no_chart(),
+    }
+}
+
+// After the end record, which ends at `next` of `size` bytes: surplus bytes (10), then 9, 8.
+fn ended(size: usize, next: usize, chart: Chart) -> Reading
+    requires { ⌜ (chart .steps ≤ 64) × (chart .blocks ≤ 256) ⌝ }
+    ensures { λ r. ⌜ r ≡ ended size next chart ⌝ }
+{
+    if next < size {
+        return refused(SURPLUS, next);
+    }
+    let code = held::closing_code(
+        chart.steps,
+        chart.blocks,
+        &chart.initial,
+        &chart.blockaction,
+        &chart.qualifier,
+    );
+    if code != 0 {
+        return refused(code, 0);
+    }
+    Reading {
+        code: 0,
+        place: 0,
+        chart,
+    }
+}
+
+// The fields are stored here, where the chart lives: a function that took the chart would copy it once for each record.
+pub fn read_chart(bytes: &[u8]) -> Reading
+    ensures { λ r. ⌜ r ≡ readChart (now (bytes .entry)) ⌝ }
+{
+    let mut chart = no_chart();
+    let mut at: usize = 0;
+    let mut before: u16 = 0;
+    loop {
+        let next = framing::record_at(bytes, at, before);
+        match next {
+            Next::Refused { code, place } => return refused(code, place),
+            Next::End => return ended(bytes.len(), at + 4, chart),
+            Next::Record {
+                kind,
+                place,
+                length,
+            } => {
+                let body = bodies::body_at(bytes, kind, place);
+                let code = bodies::body_code(
+                    body,
+                    chart.steps,
+                    chart.actions,
+                    chart.transitions,
+                    chart.blocks,
+                    chart.cases,
+                );
+                if code != 0 {
+                    return refused(code, at);
+                }
+                at = place + length;
+                before = kind;
+                match body {
+                    Body::Step(initial) => {
+                        let i = chart.steps;
+                        chart.initial[i] = initial;
+                        chart.steps = i + 1;
+                    }
+                    Body::Action(output, value) => {
+                        let i = chart.actions;
+                        chart.output[i] = output;
+                        chart.value[i] = value;
+                        chart.actions = i + 1;
+                    }
+                    Body::Transition(sources, targets, on, off, wait) => {
+                        let i = chart.transitions;
+                        chart.sources[i] = sources;
+                        chart.targets[i] = targets;
+                        chart.on[i] = on;
+                        chart.off[i] = off;
+                        chart.wait[i] = wait;
+                        chart.transitions = i + 1;
+                    }
+                    Body::Block(step, action, qualifier, duration) => {
+                        let i = chart.blocks;
+                        chart.blockstep[i] = step;
+                        chart.blockaction[i] = action;
+                        chart.qualifier[i] = qualifier;
+                        chart.duration[i] = duration;
+                        chart.blocks = i + 1;
+                    }
+                    Body::Case(step, signal, expected) => {
+                        let i = chart.cases;
+                        chart.casestep[i] = step;
+                        chart.signal[i] = signal;
+                        chart.expected[i] = expected;
+                        chart.cases = i + 1;
+                    }
+                }
+            }
+        }
+    }
+}
