@@ -2,12 +2,16 @@
 use mathlib.Core.Path.{_≡_, refl, sym, ap, ap₂, _∙_}
 use mathlib.Core.Bool.{Bool, true, false, _&&_, _||_, cond}
 use mathlib.Core.Logic.{⊎-elim}
-use Prim.Native.Nat.{ℕ, zero, suc, _+_, _-_, _<_}
-use native.Mathlib.Nat.{eq-or-lt-of-le, le-of-suc-le-suc, zero-add, suc-add}
+use mathlib.Core.List.{List}
+use Prim.Native.Nat.{ℕ, zero, suc, _+_, _-_, _≤_, _<_}
+use native.Mathlib.Nat.{eq-or-lt-of-le, le-of-suc-le-suc, le-antisymm, zero-add, suc-add}
 use native.Mathlib.Numerals.{add-one}
 use native.Mathlib.Omega.{arith}
-use borrow.Author.Tests.{eq-eqb, ne-eqb}
-use Rattle.sets.specs.Loops.{all, some, orElse, firstCode, turns}
+use lib.Dec.{eqb}
+use lib.ListN.{length, getD, set, length-set}
+use lib.Seq.{ext-getD, getD-set-same, getD-set-other}
+use borrow.Author.Tests.{eq-eqb, ne-eqb, eqb-true, eqb-false}
+use Rattle.sets.specs.Loops.{all, some, orElse, firstCode, tableFrom, table, turns}
 
 -- ---- Bool
 
@@ -36,6 +40,9 @@ pub and-no : (b : Bool) → b && false ≡ false
 and-no true = refl
 and-no false = refl
 
+pub eqb-sym : (a b : ℕ) → eqb a b ≡ eqb b a
+eqb-sym a b = bool-eq (eqb a b) (eqb b a) (λ e. eq-eqb b a (sym (eqb-true a b e))) (λ e. eq-eqb a b (sym (eqb-true b a e)))
+
 -- ---- every number passed, or some
 
 pub all-start : (p : ℕ → Bool) → true ≡ all p 0
@@ -45,6 +52,11 @@ all-start p = refl
 pub all-turn : (p : ℕ → Bool) (k : ℕ) {ok b : Bool} → ok ≡ all p k → b ≡ p k → ok && b ≡ all p (k + 1)
 unfolding all
 all-turn p k e h = rw (add-one, e, h)
+
+-- the same where the loop leaves at the first that fails
+pub all-more : (p : ℕ → Bool) (k : ℕ) {b : Bool} → all p k ≡ true → b ≡ p k → b ≡ true → all p (k + 1) ≡ true
+unfolding all
+all-more p k e q h = rw (add-one, e, ← q, h)
 
 pub all-true : (p : ℕ → Bool) (n : ℕ) → all p n ≡ true → (k : ℕ) → k < n → p k ≡ true
 unfolding all
@@ -58,6 +70,22 @@ unfolding all
 true-all p zero h = refl
 true-all p (suc n) h = rw (true-all p n (λ k l. h k (omega arith)), h n (omega arith))
 
+pub all-fails : (p : ℕ → Bool) (n k : ℕ) {b : Bool} → k < n → b ≡ p k → b ≡ false → false ≡ all p n
+all-fails p n k {b} l q h = go (all p n) refl
+  where
+    go : (t : Bool) → all p n ≡ t → false ≡ t
+    go true e = let z : p k ≡ true = all-true p n e k l in cc
+    go false e = refl
+
+pub all-end : (p : ℕ → Bool) (n k : ℕ) → all p k ≡ true → n ≤ k → k ≤ n → true ≡ all p n
+all-end p n k e a b = sym (ap (all p) (le-antisymm a b) ∙ e)
+
+pub all-done : (p : ℕ → Bool) {n : ℕ} (k : ℕ) {ok : Bool} → ok ≡ all p k → n ≤ k → k ≤ n → ok ≡ all p n
+all-done p k e a b = e ∙ ap (all p) (le-antisymm b a)
+
+pub turns-end : {A : Type 0} (f : ℕ → A → A) (s : A) (n k : ℕ) (now : A) → now ≡ turns f s k → n ≤ k → k ≤ n → now ≡ turns f s n
+turns-end f s n k now e a b = e ∙ ap (turns f s) (le-antisymm b a)
+
 pub some-start : (p : ℕ → Bool) → false ≡ some p 0
 unfolding some
 some-start p = refl
@@ -67,6 +95,14 @@ unfolding some
 some-turn p k e h = rw (add-one, e, h)
 
 -- ---- the first number that is not 0
+
+-- where it is none, both are 0
+pub else-zero : (a b : ℕ) → orElse a b ≡ 0 → (a ≡ 0) × (b ≡ 0)
+else-zero a b = go (eqb a 0) refl
+  where
+    go : (t : Bool) → eqb a 0 ≡ t → cond t b a ≡ 0 → (a ≡ 0) × (b ≡ 0)
+    go true e h = (eqb-true a 0 e, h)
+    go false e h = absurd (eqb-false a 0 e h)
 
 module _ (f : ℕ → ℕ) where
   pub first-start : firstCode f 0 ≡ 0
@@ -92,6 +128,13 @@ module _ (f : ℕ → ℕ) where
       let r : firstCode f (n - suc i + suc i) ≡ c = stays (n - suc i) (suc i) c (here i c e q) z in
       rw (rw h at r)
 
+pub first-zero : (f : ℕ → ℕ) (n : ℕ) → firstCode f n ≡ 0 → (i : ℕ) → i < n → f i ≡ 0
+unfolding firstCode
+first-zero f zero e i l = absurd (omega arith)
+first-zero f (suc n) e i l =
+    let both = else-zero (firstCode f n) (f n) e in
+    ⊎-elim (λ q. ap f q ∙ both .1) (λ m. first-zero f n (both .0) i m) (eq-or-lt-of-le (le-of-suc-le-suc l))
+
 pub first-same : (f g : ℕ → ℕ) (n : ℕ) → ((i : ℕ) → i < n → f i ≡ g i) → firstCode f n ≡ firstCode g n
 unfolding firstCode
 first-same f g zero h = refl
@@ -116,3 +159,49 @@ turns-start f s = refl
 pub turns-more : {A : Type 0} (f : ℕ → A → A) (s : A) (k : ℕ) (now next : A) → now ≡ turns f s k → next ≡ f k now → next ≡ turns f s (k + 1)
 unfolding turns
 turns-more f s k now next e n = n ∙ ap (f k) e ∙ rw add-one
+
+-- ---- a table, written from the front over what was there
+
+pub length-tableFrom : {A : Type 0} (f : ℕ → A) (k n : ℕ) → length (tableFrom f k n) ≡ n
+unfolding tableFrom
+length-tableFrom f k zero = refl
+length-tableFrom f k (suc n) = ap suc (length-tableFrom f (suc k) n)
+
+getD-tableFrom : {A : Type 0} (f : ℕ → A) (k n i : ℕ) (d : A) → i < n → getD (tableFrom f k n) i d ≡ f (k + i)
+unfolding tableFrom
+getD-tableFrom f k zero i d h = absurd (omega arith)
+getD-tableFrom f k (suc n) zero d h = ap f (omega arith)
+getD-tableFrom f k (suc n) (suc i) d h = getD-tableFrom f (suc k) n i d (omega arith) ∙ ap f (omega arith)
+
+pub length-table : {A : Type 0} (f : ℕ → A) (n : ℕ) → length (table f n) ≡ n
+length-table f n = length-tableFrom f 0 n
+
+pub getD-table : {A : Type 0} (f : ℕ → A) (n i : ℕ) (d : A) → i < n → getD (table f n) i d ≡ f i
+getD-table f n i d h = getD-tableFrom f 0 n i d h ∙ ap f (omega arith)
+
+-- a list is the table of its elements
+pub is-table : {A : Type 0} (f : ℕ → A) (n : ℕ) (l : List A) (d : A) → length l ≡ n → ((i : ℕ) → i < n → getD l i d ≡ f i) → l ≡ table f n
+is-table f n l d e h =
+    ext-getD d l (table f n) (e ∙ sym (length-table f n)) (λ i k. h i (rw e at k) ∙ sym (getD-table f n i d (rw e at k)))
+
+-- of a list l that is written from the front: as long as it was, and f i at each place passed
+pub record Written {A : Type 0} (d : A) (f : ℕ → A) (n i : ℕ) (l : List A) : Type 0 where
+  pub long : length l ≡ n
+  pub passed : (j : ℕ) → j < i → getD l j d ≡ f j
+
+module _ {A : Type 0} (d : A) (f : ℕ → A) (n : ℕ) where
+  pub written-start : (l : List A) → length l ≡ n → Written d f n 0 l
+  written-start l e = record { long = e; passed = λ j h. absurd (omega arith) }
+
+  pub written-turn : (i : ℕ) (l : List A) (v : A) → Written d f n i l → i < n → v ≡ f i → Written d f n (i + 1) (set l i v)
+  written-turn i l v w h e = record {
+    long = length-set l i v ∙ w .long;
+    passed = λ j k. ⊎-elim (λ q. ap (λ (m : ℕ). getD (set l i v) m d) q ∙ (let z = w .long in getD-set-same l i v d (omega arith)) ∙ e ∙ ap f (sym q))
+        (λ m. getD-set-other l i j v d (λ q. omega arith) ∙ w .passed j m) (eq-or-lt-of-le (below i j k));
+  }
+    where
+      below : (i j : ℕ) → j < i + 1 → j ≤ i
+      below i j h = omega arith
+
+  pub written-end : (i : ℕ) (l : List A) → Written d f n i l → n ≤ i → l ≡ table f n
+  written-end i l w h = is-table f n l d (w .long) (λ j k. w .passed j (omega arith))

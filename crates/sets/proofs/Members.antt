@@ -1,18 +1,19 @@
 -- Sets by their members: what the machine's words have as members, and that a word is its members.
-use mathlib.Core.Path.{_≡_, refl, sym, ap, _∙_}
+use mathlib.Core.Path.{_≡_, refl, sym, ap, ap₂, _∙_}
 use mathlib.Core.Bool.{Bool, true, false, _&&_, _||_, not, cond}
 use mathlib.Core.Logic.{⊎-elim}
 use Prim.Native.Nat.{ℕ, zero, suc, _+_, _-_, _*_, _/_, _%_, _^_, _≤_, _<_, min, max}
-use native.Mathlib.Nat.{eq-or-lt-of-le, le-of-suc-le-suc, one-mul, mod-eq-of-lt, lt-of-le-of-lt}
+use native.Mathlib.Nat.{eq-or-lt-of-le, le-of-suc-le-suc, one-mul, mod-eq-of-lt, lt-of-le-of-lt, lt-trans, mod-lt}
+use native.Mathlib.Numerals.{add-one}
 use native.Mathlib.Omega.{arith}
 use lib.Dec.{eqb, ltb}
-use lib.Pow.{pow-lt, shr-le, shr-shr}
-use lib.Bits.{bitAnd, bitOr, and-lt, or-lt, or-shifted-r}
+use lib.Pow.{pow-lt, pow-pos, split, shr-le, shr-shr, shl-shr}
+use lib.Bits.{bitAnd, bitOr, and-lt, or-lt, or-shifted-r, and-shifted}
 use borrow.Author.Tests.{eqb-true, eqb-false, eq-eqb, ne-eqb, lt-ltb, le-ltb, ltb-true, ltb-false, not-true}
-use Rattle.sets.specs.Loops.{all}
-use Rattle.sets.specs.Sets.{bit, has, collect, Within, Apart, Below, union, minus, insert}
+use Rattle.sets.specs.Loops.{all, some}
+use Rattle.sets.specs.Sets.{bit, has, collect, Within, Apart, Below, union, inter, minus, insert, named}
 use Rattle.sets.proofs.Bits.{bit-lt, bit-and, bit-or, bit-shr, ext, bit-zero, bit-high, bit-pow-same, bit-pow-other, bit-not}
-use Rattle.sets.proofs.Loops.{bool-eq, all-true, true-all, or-false, or-true}
+use Rattle.sets.proofs.Loops.{some-start, eqb-sym, bool-eq, all-true, true-all, or-false, or-true, and-yes}
 
 -- ---- a word is its members
 
@@ -104,7 +105,7 @@ has-collect p (suc n) k l =
     old false m = ap (λ (x : ℕ). has x k) (omega arith)
 
 -- a word with the members that p says is the set that p gives
-by-members : (s : ℕ) (p : ℕ → Bool) → s < 2 ^ 64 → ((k : ℕ) → k < 64 → has s k ≡ p k) → s ≡ collect p 64
+pub by-members : (s : ℕ) (p : ℕ → Bool) → s < 2 ^ 64 → ((k : ℕ) → k < 64 → has s k ≡ p k) → s ≡ collect p 64
 by-members s p hs h = same-members 64 s (collect p 64) hs (collect-lt p 64) (λ k l. h k l ∙ sym (has-collect p 64 k l))
 
 -- ---- the machine's words and tests are the sets and tests by members
@@ -112,16 +113,22 @@ by-members s p hs h = same-members 64 s (collect p 64) hs (collect-lt p 64) (λ 
 pub or-union : (a b : ℕ) → a < 2 ^ 64 → b < 2 ^ 64 → bitOr a b ≡ union a b
 or-union a b ha hb = by-members (bitOr a b) (λ k. has a k || has b k) (or-lt 64 a b ha hb) (λ k l. has-or a b k)
 
+pub and-inter : (a b : ℕ) → a < 2 ^ 64 → b < 2 ^ 64 → bitAnd a b ≡ inter a b
+and-inter a b ha hb = by-members (bitAnd a b) (λ k. has a k && has b k) (and-lt 64 a b ha hb) (λ k l. has-and a b k)
+
 pub and-not-minus : (a b : ℕ) → a < 2 ^ 64 → b < 2 ^ 64 → bitAnd a (2 ^ 64 - 1 - b) ≡ minus a b
 and-not-minus a b ha hb =
     by-members (bitAnd a (2 ^ 64 - 1 - b)) (λ k. has a k && not (has b k)) (and-lt 64 a (2 ^ 64 - 1 - b) ha (omega arith))
     (λ k l. has-and a (2 ^ 64 - 1 - b) k ∙ ap (λ (x : Bool). has a k && x) (has-not b k hb l))
 
+or-insert : (s k : ℕ) → s < 2 ^ 64 → k < 64 → bitOr s (2 ^ k) ≡ insert s k
+or-insert s k hs l =
+    by-members (bitOr s (2 ^ k)) (λ j. has s j || eqb j k) (or-lt 64 s (2 ^ k) hs (pow-lt l))
+    (λ j m. has-or s (2 ^ k) j ∙ ap (λ (x : Bool). has s j || x) (has-pow k j))
+
 pub or-shl-insert : (s k : ℕ) → s < 2 ^ 64 → k < 64 → bitOr s (1 * 2 ^ k % 2 ^ 64) ≡ insert s k
 or-shl-insert s k hs l =
-    ap (bitOr s) (ap (λ (x : ℕ). x % 2 ^ 64) (one-mul (2 ^ k)) ∙ mod-eq-of-lt (pow-lt l))
-    ∙ by-members (bitOr s (2 ^ k)) (λ j. has s j || eqb j k) (or-lt 64 s (2 ^ k) hs (pow-lt l))
-    (λ j m. has-or s (2 ^ k) j ∙ ap (λ (x : Bool). has s j || x) (has-pow k j))
+    ap (bitOr s) (ap (λ (x : ℕ). x % 2 ^ 64) (one-mul (2 ^ k)) ∙ mod-eq-of-lt (pow-lt l)) ∙ or-insert s k hs l
 
 pub insert-beyond : (s k : ℕ) → s < 2 ^ 64 → 64 ≤ k → s ≡ insert s k
 insert-beyond s k hs l =
@@ -189,3 +196,61 @@ all-below s n hs l =
 pub below-shr : (s j n : ℕ) → s < 2 ^ 64 → Below (s / 2 ^ j) n ≡ Below s (j + n)
 below-shr s j n hs =
     sym (shr-below (s / 2 ^ j) n (lt-of-le-of-lt (shr-le s j) hs)) ∙ ap (λ (x : ℕ). eqb x 0) (shr-shr s j n) ∙ shr-below s (j + n) hs
+
+-- ---- a loop that collects: number k put in if p holds of it
+
+pub collect-start : (p : ℕ → Bool) → 0 ≡ collect p 0
+unfolding collect
+collect-start p = refl
+
+below-64 : (p : ℕ → Bool) (k : ℕ) → k < 64 → collect p k < 2 ^ 64
+below-64 p k l = lt-trans (collect-lt p k) (pow-lt l)
+
+pub collect-turn : (p : ℕ → Bool) (k s r : ℕ) (b : Bool) → k < 64 → s ≡ collect p k → b ≡ p k → r ≡ cond b (insert s k) s → r ≡ collect p (k + 1)
+unfolding collect
+collect-turn p k s r true l e t h =
+    h ∙ ap (λ (x : ℕ). insert x k) e ∙ sym (or-insert (collect p k) k (below-64 p k l) l) ∙ sym (put-or k (collect p k) (collect-lt p k)) ∙ rw (add-one, ← t)
+collect-turn p k s r false l e t h = h ∙ e ∙ rw (add-one, ← t) (omega arith)
+
+-- ---- the set of f b for the numbers b below n of which p holds
+
+pub has-named : (p : ℕ → Bool) (f : ℕ → ℕ) (n a : ℕ) → a < 64 → has (named p f n) a ≡ some (λ b. p b && eqb (f b) a) n
+has-named p f n a l = has-collect (λ a. some (λ b. p b && eqb (f b) a) n) 64 a l
+
+pub named-start : (p : ℕ → Bool) (f : ℕ → ℕ) → 0 ≡ named p f 0
+named-start p f = by-members 0 (λ a. some (λ b. p b && eqb (f b) a) 0) (omega arith) (λ k l. has-zero k ∙ some-start _)
+
+pub named-turn : (p : ℕ → Bool) (f : ℕ → ℕ) (n : ℕ) → named p f (suc n) ≡ cond (p n) (insert (named p f n) (f n)) (named p f n)
+unfolding some
+named-turn p f n = go (p n) refl
+  where
+    old : ℕ → Bool
+    old a = some (λ b. p b && eqb (f b) a) n
+
+    go : (t : Bool) → p n ≡ t → named p f (suc n) ≡ cond t (insert (named p f n) (f n)) (named p f n)
+    go true e =
+        same-members 64 (named p f (suc n)) (insert (named p f n) (f n)) (collect-lt _ 64) (collect-lt _ 64)
+        (λ a l. has-collect _ 64 a l ∙ rw e (ap₂ _||_ (sym (has-named p f n a l)) (eqb-sym (f n) a)) ∙ sym (has-collect _ 64 a l))
+    go false e =
+        same-members 64 (named p f (suc n)) (named p f n) (collect-lt _ 64) (collect-lt _ 64)
+        (λ a l. has-collect _ 64 a l ∙ rw e (or-false _) ∙ sym (has-collect _ 64 a l))
+
+-- ---- the members of a shifted word
+
+pub has-shl-high : (s j k : ℕ) → j ≤ k → has (s * 2 ^ j) k ≡ has s (k - j)
+has-shl-high s j k l =
+    let e : j + (k - j) ≡ k = omega arith in
+    ap (has (s * 2 ^ j)) (sym e) ∙ sym (has-shr (s * 2 ^ j) j (k - j)) ∙ ap (λ (x : ℕ). has x (k - j)) (shl-shr s j)
+
+pub has-shl-low : (s j k : ℕ) → k < j → has (s * 2 ^ j) k ≡ false
+has-shl-low s j k l =
+    and-yes (has (s * 2 ^ j) k) ∙ ap (λ (b : Bool). has (s * 2 ^ j) k && b) (sym (has-pow k k ∙ eq-eqb k k refl)) ∙ sym (has-and (s * 2 ^ j) (2 ^ k) k)
+    ∙ ap (λ (x : ℕ). has x k) (and-shifted s j (2 ^ k) (pow-lt l)) ∙ has-zero k
+
+-- a set that names only numbers below n is below 2 ^ n
+pub below-lt : (s n : ℕ) → s < 2 ^ 64 → Below s n ≡ true → s < 2 ^ n
+below-lt s n hs e =
+    let z : s / 2 ^ n ≡ 0 = eqb-true _ 0 (shr-below s n hs ∙ e) in
+    let q : s / 2 ^ n * 2 ^ n + s % 2 ^ n ≡ s = split s n in
+    let r : 0 * 2 ^ n + s % 2 ^ n ≡ s = rw z at q in
+    omega (arith, mod-lt s (pow-pos n))

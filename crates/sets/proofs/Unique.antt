@@ -1,8 +1,8 @@
 -- Two answers that one statement allows are equal: the general law, and a line for each public function.
 use Prim.Native.Nat.{ℕ}
-use mathlib.Core.Bool.{Bool}
+use mathlib.Core.Bool.{Bool, cond}
 use mathlib.Core.Path.{_≡_, sym, _∙_}
-use Rattle.sets.specs.Sets.{has, Within, Apart, Below, minus, insert}
+use Rattle.sets.specs.Sets.{has, Within, Apart, Below, union, inter, minus, insert}
 
 pub one-answer : {A : Type 0} {x r q : A} → r ≡ x → q ≡ x → r ≡ q
 one-answer e f = e ∙ sym f
@@ -24,3 +24,12 @@ without-unique a b r q = one-answer
 
 pub with-unique : (s k r q : ℕ) → r ≡ insert s k → q ≡ insert s k → r ≡ q
 with-unique s k r q = one-answer
+
+pub joined-unique : (a b r q : ℕ) → r ≡ union a b → q ≡ union a b → r ≡ q
+joined-unique a b r q = one-answer
+
+pub common-unique : (a b r q : ℕ) → r ≡ inter a b → q ≡ inter a b → r ≡ q
+common-unique a b r q = one-answer
+
+pub with-if-unique : (s k : ℕ) (b : Bool) (r q : ℕ) → r ≡ cond b (insert s k) s → q ≡ cond b (insert s k) s → r ≡ q
+with-if-unique s k b r q = one-answer

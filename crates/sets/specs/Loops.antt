@@ -1,5 +1,6 @@
 -- What a loop over 0, 1, .. has in hand after n turns.
 use mathlib.Core.Bool.{Bool, true, false, _&&_, _||_, cond}
+use mathlib.Core.List.{List, [], _∷_}
 use Prim.Native.Nat.{ℕ, zero, suc}
 use lib.Dec.{eqb}
 
@@ -21,6 +22,14 @@ orElse a b = cond (eqb a 0) b a
 unfoldable pub firstCode : (ℕ → ℕ) → ℕ → ℕ
 firstCode f zero = 0
 firstCode f (suc n) = orElse (firstCode f n) (f n)
+
+-- f 0, f 1, .. in a list, n of them
+unfoldable pub tableFrom : {A : Type 0} → (ℕ → A) → ℕ → ℕ → List A
+tableFrom f k zero = []
+tableFrom f k (suc n) = f k ∷ tableFrom f (suc k) n
+
+abbrev pub table : {A : Type 0} → (ℕ → A) → ℕ → List A
+table f n = tableFrom f 0 n
 
 -- what s becomes by f 0, f 1, .. in turn, n of them
 unfoldable pub turns : {A : Type 0} → (ℕ → A → A) → A → ℕ → A

@@ -2,7 +2,7 @@
 use mathlib.Core.Bool.{Bool, _&&_, _||_, not, cond}
 use Prim.Native.Nat.{ℕ, zero, suc, _+_, _/_, _%_, _^_}
 use lib.Dec.{eqb, ltb}
-use Rattle.sets.specs.Loops.{all}
+use Rattle.sets.specs.Loops.{all, some}
 
 -- bit k of s, 0 or 1
 abbrev pub bit : ℕ → ℕ → ℕ
@@ -33,6 +33,10 @@ Below s n = all (λ k. not (has s k) || ltb k n) 64
 abbrev pub union : ℕ → ℕ → ℕ
 union a b = collect (λ k. has a k || has b k) 64
 
+-- what is in both
+abbrev pub inter : ℕ → ℕ → ℕ
+inter a b = collect (λ k. has a k && has b k) 64
+
 -- what is in a and not in b
 abbrev pub minus : ℕ → ℕ → ℕ
 minus a b = collect (λ k. has a k && not (has b k)) 64
@@ -40,3 +44,7 @@ minus a b = collect (λ k. has a k && not (has b k)) 64
 -- s with k
 abbrev pub insert : ℕ → ℕ → ℕ
 insert s k = collect (λ j. has s j || eqb j k) 64
+
+-- the set of f b for the numbers b below n of which p holds
+abbrev pub named : (ℕ → Bool) → (ℕ → ℕ) → ℕ → ℕ
+named p f n = collect (λ a. some (λ b. p b && eqb (f b) a) n) 64

@@ -1,7 +1,7 @@
 // Sets of numbers below 64 as one word: bit k is number k (document 01, "The chart and its bytes").
 ghost use mathlib.Core.Path.{_≡_};
-ghost use Prim.Native.Nat.{_<_};
-ghost use Rattle.sets.specs.Sets.{has, Within, Apart, Below, minus, insert};
+ghost use mathlib.Core.Bool.{cond};
+ghost use Rattle.sets.specs.Sets.{has, Within, Apart, Below, union, inter, minus, insert};
 
 pub fn is_in(s: u64, k: usize) -> bool
     ensures { λ r. ⌜ r ≡ has s k ⌝ }
@@ -33,6 +33,18 @@ pub fn names_below(s: u64, n: usize) -> bool
     true
 }
 
+pub fn joined(a: u64, b: u64) -> u64
+    ensures { λ r. ⌜ r ≡ union a b ⌝ }
+{
+    a | b
+}
+
+pub fn common(a: u64, b: u64) -> u64
+    ensures { λ r. ⌜ r ≡ inter a b ⌝ }
+{
+    a & b
+}
+
 pub fn without(a: u64, b: u64) -> u64
     ensures { λ r. ⌜ r ≡ minus a b ⌝ }
 {
@@ -47,4 +59,11 @@ pub fn with(s: u64, k: usize) -> u64
         return s | 1 << k;
     }
     s
+}
+
+// s, with k if b says so.
+pub fn with_if(s: u64, k: usize, b: bool) -> u64
+    ensures { λ r. ⌜ r ≡ cond b (insert s k) s ⌝ }
+{
+    if b { with(s, k) } else { s }
 }
