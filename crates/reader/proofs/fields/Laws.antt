@@ -1,10 +1,10 @@
 -- The qualifiers' timing by ranges.
 use Prim.Native.Nat.{ℕ, _≤_, _<_}
 use mathlib.Core.Bool.{Bool, true, false, _&&_, not, cond}
-use mathlib.Core.Path.{_≡_, refl}
+use mathlib.Core.Path.{_≡_, refl, _∙_}
 use lib.Dec.{leb, ltb, eqb}
 use native.Mathlib.Omega.{arith}
-use borrow.Author.Tests.{eqb-true, ne-eqb, lt-leb}
+use borrow.Author.Tests.{eqb-true, ne-eqb, lt-leb, le-leb, lt-ltb, le-ltb}
 use Rattle.sets.specs.Loops.{all}
 use Rattle.sets.proofs.Loops.{all-true}
 use Rattle.reader.specs.Fields.{timed, timing}
@@ -13,9 +13,18 @@ ranged : ℕ → ℕ
 ranged q = cond (leb 3 q && ltb q 9 && not (eqb q 5)) 1 0
 
 -- one test of all eleven
-pub timing-known : (q : ℕ) → q < 11 → timing q ≡ cond (leb 3 q && ltb q 9 && not (eqb q 5)) 1 0
+timing-known : (q : ℕ) → q < 11 → timing q ≡ cond (leb 3 q && ltb q 9 && not (eqb q 5)) 1 0
 unfolding all ranged
 timing-known q h = eqb-true _ _ (all-true (λ k. eqb (timing k) (ranged k)) 11 refl q h)
+
+pub timing-timed-range : (q : ℕ) → 3 ≤ q → q < 9 → (q ≡ 5 → ⊥) → timing q ≡ 1
+timing-timed-range q h k z = timing-known q (omega arith) ∙ rw (le-leb 3 q h, lt-ltb q 9 k, ne-eqb q 5 z)
+
+pub timing-low : (q : ℕ) → q < 3 → timing q ≡ 0
+timing-low q h = timing-known q (omega arith) ∙ rw (lt-leb 3 q h)
+
+pub timing-high : (q : ℕ) → 9 ≤ q → q < 11 → timing q ≡ 0
+timing-high q h k = timing-known q k ∙ rw (le-leb 3 q (omega arith), le-ltb q 9 h)
 
 pub timing-unknown : (q : ℕ) → 11 ≤ q → 2 ≡ timing q
 timing-unknown q h =

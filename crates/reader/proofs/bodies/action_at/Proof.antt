@@ -5,9 +5,8 @@ use denote.Ref.{now}
 use mir.Syntax.{w32}
 use mir.Val.{toZ}
 use mir.Facts.{toZ-ofZ}
-use borrow.Author.Needs.{sfits-of}
+use borrow.Author.Needs.{sfits-of, needs}
 use Rattle.reader.specs.declared.bodies.Body.the-variants.{Action}
-use borrow.Author.Needs.{needs}
 use Rattle.reader.proofs.bodies.action_at.Statement.{statement}
 use Rattle.reader.proofs.bodies.action_at.Tie as tie
 

@@ -2,20 +2,17 @@
 use mir.Val.{SFits}
 use mir.Syntax.{w32}
 use mir.Facts.{toZ-ofZ}
-use Rattle.reader.proofs.framing.Laws.{is-known}
-use mathlib.Core.Path.{ap}
+use Rattle.reader.proofs.framing.Laws.{is-known, Headed, Found, is-found, is-end, is-refused}
+use mathlib.Core.Path.{ap, _≡_, sym, _∙_}
 use Rattle.reader.specs.Framing.{kindAt, recordNumber}
 use Rattle.reader.specs.Reading.{refused, withBody}
 use Rattle.reader.specs.declared.bodies.Body.{Body}
-use Rattle.reader.proofs.framing.Laws.{Headed, Found, is-found, is-end, is-refused}
-use Rattle.reader.proofs.reading.Laws.{Room}
+use Rattle.reader.proofs.reading.Laws.{Room, Onward, begin, refused-here, ended-here, halted, onward, room}
 use Prim.Native.Nat.{_+_, _-_, _<_}
-use mathlib.Core.Path.{_≡_, sym, _∙_}
 use native.Mathlib.Omega.{arith}
 use lib.ListN.{length}
 use denote.Ref.{now}
 use borrow.Author.Needs.{needs}
-use Rattle.reader.proofs.reading.Laws.{Onward, begin, refused-here, ended-here, halted, onward, room}
 use Rattle.reader.proofs.reading.read_chart.Statement.{statement}
 use Rattle.reader.proofs.reading.read_chart.Tie as tie
 
