@@ -1,0 +1,39 @@
+-- Two answers that one statement allows are equal, for each public function.
+use Prim.Native.Nat.{ℕ}
+use mathlib.Core.List.{List}
+use mathlib.Core.Path.{_≡_, sym, ap, _∙_}
+use lib.IntN.{ℤ}
+use lib.ListN.{length}
+use Rattle.sets.proofs.Unique.{one-answer}
+use Rattle.reader.specs.declared.chart.Chart.{Chart}
+use Rattle.cycle.specs.Run.{noRun, longerCounter, longerTimer}
+use Rattle.cycle.specs.Time.{elapsed}
+use Rattle.cycle.specs.Cycling.{startOf, cycleOf, outputsAfter}
+use Rattle.cycle.specs.declared.run.StepCounter.{StepCounter}
+use Rattle.cycle.specs.declared.run.ActionTimer.{ActionTimer}
+use Rattle.cycle.specs.declared.run.Run.{Run}
+use Rattle.cycle.specs.declared.cycling.Cycled.{Cycled}
+
+pub no-run-unique : (r q : Run) → r ≡ noRun → q ≡ noRun → r ≡ q
+no-run-unique r q = one-answer
+
+pub counter-longer-unique : (e : ℕ) (c r q : StepCounter) → r ≡ longerCounter e c → q ≡ longerCounter e c → r ≡ q
+counter-longer-unique e c r q = one-answer
+
+pub timer-longer-unique : (e : ℕ) (t r q : ActionTimer) → r ≡ longerTimer e t → q ≡ longerTimer e t → r ≡ q
+timer-longer-unique e t r q = one-answer
+
+pub elapsed-unique : (last new r q : ℕ) → r ≡ elapsed last new → q ≡ elapsed last new → r ≡ q
+elapsed-unique last new r q = one-answer
+
+-- the answer, and the lent outputs with it
+both : (c : Chart) (x r q : Cycled) (out f g : List ℤ) → r ≡ x → q ≡ x → f ≡ outputsAfter c r out → g ≡ outputsAfter c q out → (r ≡ q) × (f ≡ g)
+both c x r q out f g e h a b = (one-answer e h, a ∙ ap (λ (o : Cycled). outputsAfter c o out) (one-answer e h) ∙ sym b)
+
+pub start-unique : (c : Chart) (clock : ℕ) (r q : Cycled) (out f g : List ℤ) → r ≡ startOf c clock (length out) → q ≡ startOf c clock (length out)
+    → f ≡ outputsAfter c r out → g ≡ outputsAfter c q out → (r ≡ q) × (f ≡ g)
+start-unique c clock r q out f g = both c (startOf c clock (length out)) r q out f g
+
+pub cycle-unique : (c : Chart) (run : Run) (clock inputs : ℕ) (r q : Cycled) (out f g : List ℤ) → r ≡ cycleOf c run clock inputs (length out) → q ≡ cycleOf c run clock inputs (length out)
+    → f ≡ outputsAfter c r out → g ≡ outputsAfter c q out → (r ≡ q) × (f ≡ g)
+cycle-unique c run clock inputs r q out f g = both c (cycleOf c run clock inputs (length out)) r q out f g

@@ -1,0 +1,45 @@
+-- What the first blocks ask, and what one block more makes of it.
+use Prim.Native.Nat.{ℕ, suc, _+_, _<_}
+use mathlib.Core.List.{List}
+use mathlib.Core.Path.{_≡_, _∙_}
+use native.Mathlib.Numerals.{add-one}
+use lib.ListN.{getD}
+use mathlib.Core.Bool.{true, false}
+use Rattle.sets.specs.Sets.{has, union, inter, minus}
+use Rattle.sets.proofs.Loops.{and-no}
+use Rattle.sets.proofs.Members.{named-start, named-turn}
+use Rattle.sets.proofs.Below.{has-union, has-minus}
+use Rattle.cycle.specs.Acting.{askingAt, asked, resets, sets, latches, wants, ripens, requestOf, storedAfter, latchedAfter, acted}
+use Rattle.cycle.specs.declared.acting.Steps.{Steps}
+use Rattle.cycle.specs.declared.acting.Asked.{Asked}
+
+module _ (step action qualifier duration counts times : List ℕ) (steps : Steps) where
+  pub none-asked : record { reset = 0; set = 0; latch = 0; want = 0; ripe = 0 } ≡ asked 0 step action qualifier duration counts times steps
+  unfolding asked
+  none-asked = rw (← named-start (λ b. resets (requestOf step action qualifier duration counts times steps b)) (λ b. getD action b 0), ← named-start (λ b. sets (requestOf step action qualifier duration counts times steps b)) (λ b. getD action b 0), ← named-start (λ b. latches (requestOf step action qualifier duration counts times steps b)) (λ b. getD action b 0), ← named-start (λ b. wants (requestOf step action qualifier duration counts times steps b)) (λ b. getD action b 0), ← named-start (λ b. ripens (requestOf step action qualifier duration counts times steps b)) (λ b. getD action b 0))
+
+  turn : (b : ℕ)
+      → askingAt (asked b step action qualifier duration counts times steps) (getD step b 0) (getD action b 0) (getD qualifier b 0) (getD duration b 0) (getD counts (getD step b 0) 0) (getD times (getD action b 0) 0) steps
+      ≡ asked (suc b) step action qualifier duration counts times steps
+  unfolding asked
+  turn b = rw (named-turn (λ b. resets (requestOf step action qualifier duration counts times steps b)) (λ b. getD action b 0) b, named-turn (λ b. sets (requestOf step action qualifier duration counts times steps b)) (λ b. getD action b 0) b, named-turn (λ b. latches (requestOf step action qualifier duration counts times steps b)) (λ b. getD action b 0) b, named-turn (λ b. wants (requestOf step action qualifier duration counts times steps b)) (λ b. getD action b 0) b, named-turn (λ b. ripens (requestOf step action qualifier duration counts times steps b)) (λ b. getD action b 0) b)
+
+  pub one-asked : (b : ℕ) (x y : Asked) (s a : ℕ) → x ≡ asked b step action qualifier duration counts times steps → s ≡ getD step b 0 → a ≡ getD action b 0
+      → y ≡ askingAt x s a (getD qualifier b 0) (getD duration b 0) (getD counts s 0) (getD times a 0) steps
+      → y ≡ asked (b + 1) step action qualifier duration counts times steps
+  one-asked b x y s a e p q h = h ∙ rw (e, p, q, add-one) (turn b)
+
+-- ---- reset wins, and only a reset clears a latch
+
+module _ (x : Asked) (stored latched a : ℕ) (l : a < 64) where
+  -- "Restarting SL when its step is entered again: only a reset clears the latch."
+  pub latch-stays : has latched a ≡ true → has (x .reset) a ≡ false → has (latchedAfter x latched) a ≡ true
+  latch-stays h z = has-minus (union latched (x .latch)) (x .reset) a l ∙ rw (has-union latched (x .latch) a l, h, z)
+
+  cleared : (s : ℕ) → has (x .reset) a ≡ true → has (minus s (x .reset)) a ≡ false
+  cleared s z = has-minus s (x .reset) a l ∙ rw z (and-no (has s a))
+
+  -- "Letting S win over R in one cycle": not here, nor any other qualifier
+  pub reset-wins : has (x .reset) a ≡ true → (has (acted x stored latched .stored) a ≡ false) × (has (acted x stored latched .latched) a ≡ false) × (has (acted x stored latched .activity) a ≡ false)
+  unfolding acted
+  reset-wins z = (cleared (union stored (x .set)) z, cleared (union latched (x .latch)) z, cleared (union (x .want) (union (storedAfter x stored) (inter (latchedAfter x latched) (x .ripe)))) z)

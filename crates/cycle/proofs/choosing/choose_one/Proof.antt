@@ -1,0 +1,28 @@
+-- The tests say which.
+use mathlib.Core.Path.{sym, _∙_}
+use borrow.Author.Needs.{needs}
+use Rattle.cycle.proofs.choosing.choose_one.Statement.{statement}
+use Rattle.cycle.proofs.choosing.choose_one.Tie as tie
+
+is-ready-requires : tie.Need-is-ready-requires
+is-ready-requires c κs = search needs
+
+is-ripe-requires : tie.Need-is-ripe-requires
+is-ripe-requires c κs = search needs
+
+taking-requires : tie.Need-taking-requires
+taking-requires c κs = search needs
+
+returns : tie.Need-returns
+returns c = rw (sym (c .before .before .before .before .is-ready .ensures) ∙ c .before .before .before .if1 .taken, sym (c .before .before .is-ripe .ensures) ∙ c .before .if2 .taken) (c .taking .ensures)
+
+returns-2 : tie.Need-returns-2
+returns-2 c = rw (sym (c .before .before .before .is-ready .ensures) ∙ c .before .before .if1 .taken, sym (c .before .is-ripe .ensures) ∙ c .if2 .left)
+
+returns-3 : tie.Need-returns-3
+returns-3 c = rw (sym (c .before .is-ready .ensures) ∙ c .if1 .left)
+
+pub choose-one-spec : {M : Type 1} → statement M
+choose-one-spec =
+    tie.close
+    (tie.spec is-ready-requires is-ripe-requires taking-requires returns returns-2 returns-3)

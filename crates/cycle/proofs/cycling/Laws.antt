@@ -1,0 +1,132 @@
+-- From the tests and the parts of a call to its whole answer.
+use Prim.Native.Nat.{ℕ, _≤_, _<_}
+use mathlib.Core.List.{List, _++_}
+use mathlib.Core.Bool.{Bool, true, false, cond}
+use mathlib.Core.Path.{_≡_, _∙_}
+use lib.IntN.{ℤ}
+use lib.ListN.{drop, replicate}
+use native.Mathlib.Nat.{lt-of-lt-of-le}
+use lib.Dec.{leb, eqb}
+use borrow.Author.Tests.{le-leb, lt-leb, eq-eqb, ne-eqb}
+use Rattle.sets.specs.Loops.{orElse}
+use Rattle.sets.specs.Sets.{union}
+use Rattle.reader.specs.Fields.{unless}
+use Rattle.reader.specs.declared.chart.Chart.{Chart}
+use Rattle.reader.proofs.held.Sound.{Sound}
+use Rattle.cycle.specs.Time.{elapsed, grownCounts, grownTimes}
+use Rattle.cycle.specs.Moving.{initialSet, settledCounters, settledTimers, signalsOf}
+use Rattle.cycle.specs.Outputs.{outputsOf}
+use Rattle.cycle.specs.Choosing.{stepsOf}
+use Rattle.cycle.specs.Cycling.{Settles, refused, actedOn, started, choiceOf, marksAt, cycled, outputsAfter}
+use Rattle.cycle.specs.declared.choosing.Choice.{Choice}
+use Rattle.cycle.specs.declared.moving.Marks.{Marks}
+use Rattle.cycle.specs.declared.acting.Steps.{Steps}
+use Rattle.cycle.specs.declared.acting.Acted.{Acted}
+use Rattle.cycle.specs.declared.run.StepCounter.{StepCounter}
+use Rattle.cycle.specs.declared.run.ActionTimer.{ActionTimer}
+use Rattle.cycle.specs.declared.run.Run.{Run}
+use Rattle.cycle.specs.declared.cycling.Cycled.{Cycled}
+
+-- ---- the lent outputs
+
+pub untouched : (c : Chart) (r : Cycled) (code : ℕ) (run : Run) (out : List ℤ) → r ≡ refused code run → (code ≡ 0 → ⊥) → out ≡ outputsAfter c r out
+untouched c r code run out e z = rw (e, ne-eqb code 0 z)
+
+pub written : (c : Chart) (r : Cycled) (out after : List ℤ) → r .code ≡ 0 → after ≡ outputsOf (c .actions) (c .output) (c .value) (r .run .activity) ++ drop 32 out
+    → after ≡ outputsAfter c r out
+written c r out after z e = e ∙ rw (eq-eqb _ 0 z)
+
+-- ---- the number of a call, by the tests in their order
+
+pub few : (rest lent : ℕ) → lent < 32 → 15 ≡ orElse (unless (leb 32 lent) 15) rest
+few rest lent h = rw (lt-leb 32 lent h)
+
+pub enough : (rest lent : ℕ) → 32 ≤ lent → rest ≡ orElse (unless (leb 32 lent) 15) rest
+enough rest lent h = rw (le-leb 32 lent h)
+
+pub stops : (code rest : ℕ) → (code ≡ 0 → ⊥) → code ≡ orElse code rest
+stops code rest z = rw (ne-eqb code 0 z)
+
+pub goes-on : (code rest : ℕ) → code ≡ 0 → rest ≡ orElse code rest
+goes-on code rest z = rw (eq-eqb code 0 z)
+
+pub other-run : (fit : Bool) (rest : ℕ) → fit ≡ false → 12 ≡ orElse (unless fit 12) rest
+other-run fit rest e = rw e
+
+pub own-run : (fit : Bool) (rest : ℕ) → fit ≡ true → rest ≡ orElse (unless fit 12) rest
+own-run fit rest e = rw e
+
+pub too-late : (e : ℕ) → 60000 < e → 11 ≡ unless (leb e 60000) 11
+too-late e h = rw (lt-leb e 60000 h)
+
+pub in-time : (e : ℕ) → e ≤ 60000 → 0 ≡ unless (leb e 60000) 11
+in-time e h = rw (le-leb e 60000 h)
+
+-- an answer by its number
+pub refused-by : (code n : ℕ) (x r : Cycled) (run given : Run) → n ≡ code → (n ≡ 0 → ⊥) → given ≡ run → r ≡ refused n given → r ≡ cond (eqb code 0) x (refused code run)
+refused-by code n x r run given e z g h = h ∙ rw (g, ← e, ne-eqb n 0 z)
+
+pub accepted-by : (code : ℕ) (x y r : Cycled) → 0 ≡ code → r ≡ x → r ≡ cond (eqb code 0) x y
+accepted-by code x y r e h = h ∙ rw (← e)
+
+-- ---- the parts of an accepted start
+
+pub started-as : (c : Chart) (clock i : ℕ) (x : Acted) (cs : List StepCounter) (ts : List ActionTimer)
+    → i ≡ initialSet (c .steps) (c .initial)
+    → x ≡ actedOn c (replicate 64 0) (replicate 32 0) (record { active = i; entered = i; left = 0; kept = 0 }) 0 0
+    → cs ≡ settledCounters (replicate 64 0) 0
+    → ts ≡ settledTimers (replicate 32 0) (x .latched)
+    → record {
+      code = 0;
+      taken = 0;
+      run = record { clock = clock; active = i; activity = x .activity; stored = x .stored; latched = x .latched; counters = cs; timers = ts; good = 0; bad = 0 };
+    }
+    ≡ started c clock
+started-as c clock i x cs ts e f g h = rw (h, g, f, e)
+
+-- a tested chart and enough outputs serve paragraphs 4 to 6
+pub settles : (c : Chart) (lent : ℕ) → Sound c → 32 ≤ lent → Settles lent (c .actions) (c .output) (c .blocks) (c .blockstep) (c .blockaction)
+settles c lent s h =
+    let l = s .limits in
+    record {
+      enough = h;
+      few = l .actions;
+      driven = s .output;
+      limited = l .blocks;
+      named = λ k q. (lt-of-lt-of-le (s .blockstep k q) (l .steps), lt-of-lt-of-le (s .blockaction k q) (l .actions));
+    }
+
+-- ---- the parts of an accepted cycle
+
+pub cycled-as : (c : Chart) (r : Run) (clock inputs e : ℕ) (counts times : List ℕ) (signals : ℕ) (ch : Choice) (st : Steps) (m : Marks) (x : Acted)
+    (cs : List StepCounter) (ts : List ActionTimer) (good bad : ℕ)
+    → e ≡ elapsed (r .clock) clock
+    → counts ≡ grownCounts (r .counters) (r .active) e
+    → times ≡ grownTimes (r .timers) (r .latched) e
+    → signals ≡ signalsOf inputs (r .activity)
+    → ch ≡ choiceOf c r counts signals
+    → st ≡ stepsOf (r .active) ch
+    → m ≡ marksAt c (ch .left) signals
+    → x ≡ actedOn c counts times st (r .stored) (r .latched)
+    → cs ≡ settledCounters counts (st .kept)
+    → ts ≡ settledTimers times (x .latched)
+    → good ≡ union (r .good) (m .good)
+    → bad ≡ union (r .bad) (m .bad)
+    → record {
+      code = 0;
+      taken = ch .taken;
+      run = record {
+        clock = clock;
+        active = st .active;
+        activity = x .activity;
+        stored = x .stored;
+        latched = x .latched;
+        counters = cs;
+        timers = ts;
+        good = good;
+        bad = bad;
+      };
+    }
+    ≡ cycled c r clock inputs
+cycled-as c r clock inputs e counts times signals ch st m x cs ts good bad e₁ e₂ e₃ e₄ e₅ e₆ e₇ e₈ e₉ f₁ f₂ f₃ =
+    rw (f₃, f₂, f₁, e₉, e₈, e₇, e₆, e₅, e₄, e₃, e₂, e₁)

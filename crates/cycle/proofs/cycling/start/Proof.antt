@@ -1,0 +1,90 @@
+-- The tests in their order; then the parts by their statements.
+use mathlib.Core.Path.{_≡_, sym, _∙_}
+use native.Mathlib.Omega.{arith}
+use lib.ListN.{length}
+use denote.Ref.{now}
+use Rattle.reader.specs.Held.{chartCode}
+use Rattle.reader.proofs.held.Sound.{sound}
+use Rattle.cycle.specs.Run.{noRun}
+use Rattle.cycle.specs.Cycling.{refused, startCode, started}
+use Rattle.cycle.proofs.cycling.Laws.{few, enough, refused-by, accepted-by, untouched, started-as, settles}
+use borrow.Author.Needs.{needs}
+use Rattle.cycle.proofs.cycling.start.Statement.{statement}
+use Rattle.cycle.proofs.cycling.start.Tie as tie
+
+chart-zero : (c : tie.Else2) → chartCode (c .before .before .before .before .before .before .before .before .before .before .before .before .before .before .before .before .before .before .args .t1) ≡ 0
+chart-zero c = sym (c .before .held-code .ensures) ∙ c .if2 .left
+
+no-run-requires : tie.Need-no-run-requires
+no-run-requires c κs = search needs
+
+refused-requires : tie.Need-refused-requires
+refused-requires c κs = search needs
+
+returns : tie.Need-returns
+returns c =
+    let a = c .before .before .before .args in
+    let h = c .before .before .if1 .taken in (
+      refused-by _ 15 (started (a .t1) (a .clock)) (c .refused .result) noRun (c .before .no-run .result) (few _ _ h) (λ z. omega arith) (c .before .no-run .ensures) (c .refused .ensures),
+      untouched (a .t1) (c .refused .result) 15 (c .before .no-run .result) (now (a .outputs)) (c .refused .ensures) (λ z. omega arith),
+    )
+
+held-code-requires : tie.Need-held-code-requires
+held-code-requires c κs = search needs
+
+no-run-requires-2 : tie.Need-no-run-requires-2
+no-run-requires-2 c κs = search needs
+
+refused-requires-2 : tie.Need-refused-requires-2
+refused-requires-2 c κs = search needs
+
+returns-2 : tie.Need-returns-2
+returns-2 c =
+    let a = c .before .before .before .before .before .before .before .before .before .before .before .before .before .before .before .before .before .before .before .before .args in
+    let z = c .before .before .if2 .taken in
+    let e = c .before .before .before .held-code .ensures in (
+      refused-by _ _ (started (a .t1) (a .clock)) (c .refused2 .result) noRun (c .before .no-run2 .result) (e ∙ enough _ _ (c .before .before .before .before .before .before .before .before .before .before .before .before .before .before .before .before .before .before .before .if1 .left)) z (c .before .no-run2 .ensures) (c .refused2 .ensures),
+      untouched (a .t1) (c .refused2 .result) _ (c .before .no-run2 .result) (now (a .outputs)) (c .refused2 .ensures) z,
+    )
+
+initial-set-requires : tie.Need-initial-set-requires
+initial-set-requires c κs = sound (c .before .before .before .before .before .before .before .before .before .before .before .before .before .before .before .before .before .before .before .before .args .t1) (chart-zero (c .before .before)) .limits .steps
+
+settle-requires : tie.Need-settle-requires
+settle-requires c κs = settles (c .before .before .before .before .before .before .before .before .before .before .before .before .before .before .before .before .before .before .before .before .before .before .before .before .before .before .before .before .before .before .before .args .t1) _ (sound (c .before .before .before .before .before .before .before .before .before .before .before .before .before .before .before .before .before .before .before .before .before .before .before .before .before .before .before .before .before .before .before .args .t1) (chart-zero (c .before .before .before .before .before .before .before .before .before .before .before .before .before))) (c .before .before .before .before .before .before .before .before .before .before .before .before .before .before .before .before .before .before .before .before .before .before .before .before .before .before .before .before .before .before .if1 .left)
+
+settled-counters-requires : tie.Need-settled-counters-requires
+settled-counters-requires c κs = search needs
+
+settled-timers-requires : tie.Need-settled-timers-requires
+settled-timers-requires c κs = search needs
+
+same-length : tie.Need-same-length
+same-length c = search needs
+
+returns-3 : tie.Need-returns-3
+returns-3 c =
+    let a = c .before .before .before .before .before .before .before .before .before .before .before .before .before .before .before .before .before .before .before .before .before .before .before .before .before .before .before .before .before .before .before .before .before .before .before .before .before .args in
+    let s = c .before .before .before .before .before .settle .ensures in (
+      accepted-by _ (started (a .t1) (a .clock)) (refused (startCode (a .t1) (length (now (a .outputs)))) noRun) _ (sym (chart-zero (c .before .before .before .before .before .before .before .before .before .before .before .before .before .before .before .before .before .before .before)) ∙ enough _ _ (c .before .before .before .before .before .before .before .before .before .before .before .before .before .before .before .before .before .before .before .before .before .before .before .before .before .before .before .before .before .before .before .before .before .before .before .before .if1 .left))
+          (started-as (a .t1) (a .clock) _ (c .before .before .before .before .before .settle .result) _ _ (c .before .before .before .before .before .before .before .before .before .before .before .before .before .before .before .before .initial-set .ensures) (s .0) (c .before .before .settled-counters .ensures) (c .settled-timers .ensures)),
+      s .1,
+    )
+
+pub start-spec : {M : Type 1} → statement M
+start-spec =
+    tie.close
+    (tie.spec
+    no-run-requires
+    refused-requires
+    returns
+    held-code-requires
+    no-run-requires-2
+    refused-requires-2
+    returns-2
+    initial-set-requires
+    settle-requires
+    settled-counters-requires
+    settled-timers-requires
+    same-length
+    returns-3)

@@ -1,0 +1,13 @@
+-- By membership.
+use borrow.Author.Needs.{needs}
+use Rattle.cycle.proofs.moving.as_expected.Statement.{statement}
+use Rattle.cycle.proofs.moving.as_expected.Tie as tie
+
+is-in-requires : tie.Need-is-in-requires
+is-in-requires c κs = search needs
+
+returns : tie.Need-returns
+returns c = rw (c .is-in .ensures)
+
+pub as-expected-spec : {M : Type 1} → statement M
+as-expected-spec = tie.close (tie.spec is-in-requires returns)

@@ -1,0 +1,11 @@
+-- By members.
+use borrow.Author.Needs.{needs}
+use Rattle.cycle.proofs.moving.Laws.{or-shl-signals}
+use Rattle.cycle.proofs.moving.signals_of.Statement.{statement}
+use Rattle.cycle.proofs.moving.signals_of.Tie as tie
+
+returns : tie.Need-returns
+returns c = or-shl-signals (c .args .inputs) (c .args .activity) (search needs) (c .pre)
+
+pub signals-of-spec : {M : Type 1} → statement M
+signals-of-spec = tie.close (tie.spec returns)

@@ -1,0 +1,24 @@
+-- Wiped, then driven.
+use mathlib.Core.Path.{_∙_}
+use denote.Ref.{now}
+use Rattle.cycle.proofs.outputs.Laws.{driven-wiped}
+use borrow.Author.Needs.{needs}
+use Rattle.cycle.proofs.outputs.write_outputs.Statement.{statement}
+use Rattle.cycle.proofs.outputs.write_outputs.Tie as tie
+
+wipe-requires : tie.Need-wipe-requires
+wipe-requires c κs = search needs
+
+drive-requires : tie.Need-drive-requires
+drive-requires c κs = search needs
+
+same-length : tie.Need-same-length
+same-length c = search needs
+
+returns : tie.Need-returns
+returns c =
+    let s = c .before .before .before .before .before .before in
+    c .before .drive .ensures ∙ rw (c .before .before .before .before .wipe .ensures) (driven-wiped (s .args .n) (now (s .args .output)) (now (s .args .value)) (s .args .activity) (now (s .args .out)))
+
+pub write-outputs-spec : {M : Type 1} → statement M
+write-outputs-spec = tie.close (tie.spec wipe-requires drive-requires same-length returns)

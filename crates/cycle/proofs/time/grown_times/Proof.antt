@@ -1,0 +1,64 @@
+-- Each place passed has its grown number.
+use mathlib.Core.Path.{refl}
+use Prim.Native.Nat.{_≤_, _-_}
+use native.Mathlib.Omega.{arith}
+use borrow.Author.Needs.{needs}
+use Rattle.sets.proofs.Loops.{Written, written-start, written-turn, written-end}
+use lib.ListN.{getD}
+use Rattle.cycle.specs.Run.{timer}
+use Rattle.cycle.specs.Time.{grownTime}
+use Rattle.cycle.proofs.time.grown_times.Statement.{statement}
+use Rattle.cycle.proofs.time.grown_times.Tie as tie
+
+abbrev Inv-loop : tie.InvT-loop
+Inv-loop latched e held out₀ k₀ out k = Written 0 (λ j. grownTime latched e j (getD held j (timer 0))) 32 k out × (k ≤ 32)
+
+abbrev μ-loop : tie.MeasureT-loop
+μ-loop latched e held out₀ k₀ out k = 32 - k
+
+loop-holds : tie.Need-loop-holds Inv-loop μ-loop
+loop-holds c = (written-start _ _ _ _ refl, omega arith)
+
+mul-t : tie.Need-mul-t Inv-loop μ-loop
+mul-t c = omega arith
+
+array-copy-out-t : tie.Need-array-copy-out-t Inv-loop μ-loop
+array-copy-out-t c = omega arith
+
+grown-time-requires : tie.Need-grown-time-requires Inv-loop μ-loop
+grown-time-requires c κs = search needs
+
+mul-out : tie.Need-mul-out Inv-loop μ-loop
+mul-out c = omega arith
+
+array-write-out : tie.Need-array-write-out Inv-loop μ-loop
+array-write-out c = omega arith
+
+add-k : tie.Need-add-k Inv-loop μ-loop
+add-k c = omega arith
+
+loop-less : tie.Need-loop-less Inv-loop μ-loop
+loop-less c = omega arith
+
+loop-again : tie.Need-loop-again Inv-loop μ-loop
+loop-again c = (written-turn _ _ _ _ _ _ (c .before .before .before .loop .inv .0) (omega arith) (c .grown-time .ensures), omega arith)
+
+returns : tie.Need-returns Inv-loop μ-loop
+returns c = written-end _ _ _ (c .before .loop .k) _ (c .before .loop .inv .0) (omega arith)
+
+pub grown-times-spec : {M : Type 1} → statement M
+grown-times-spec =
+    tie.close
+    (tie.spec
+    Inv-loop
+    μ-loop
+    loop-holds
+    mul-t
+    array-copy-out-t
+    grown-time-requires
+    mul-out
+    array-write-out
+    add-k
+    loop-less
+    loop-again
+    returns)

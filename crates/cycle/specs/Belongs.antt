@@ -1,0 +1,35 @@
+-- "A run belongs to a chart if active steps, activity, stored, latched and case marks name only existing numbers; step counters of inactive
+-- steps and action timers of unlatched actions are 0; none exceeds 86,400,000."
+use Prim.Native.Nat.{ℕ}
+use mathlib.Core.List.{List}
+use mathlib.Core.Bool.{Bool, _&&_, _||_}
+use lib.ListN.{getD}
+use lib.Dec.{leb, eqb}
+use Rattle.sets.specs.Loops.{all}
+use Rattle.sets.specs.Sets.{has, Below}
+use Rattle.cycle.specs.Run.{longest, counter, timer}
+use Rattle.cycle.specs.declared.run.StepCounter.{StepCounter}
+use Rattle.cycle.specs.declared.run.ActionTimer.{ActionTimer}
+use Rattle.cycle.specs.declared.run.Run.{Run}
+use Rattle.reader.specs.declared.chart.Chart.{Chart}
+
+abbrev pub countFits : ℕ → ℕ → ℕ → Bool
+countFits set k n = leb n longest && (has set k || eqb n 0)
+
+abbrev pub countersFit : List StepCounter → ℕ → Bool
+countersFit counters active = all (λ k. countFits active k (getD counters k (counter 0) .0)) 64
+
+abbrev pub timersFit : List ActionTimer → ℕ → Bool
+timersFit timers latched = all (λ k. countFits latched k (getD timers k (timer 0) .0)) 32
+
+abbrev pub namesFit : ℕ → ℕ → ℕ → ℕ → ℕ → ℕ → ℕ → ℕ → ℕ → Bool
+namesFit steps actions cases active activity stored latched good bad =
+    Below active steps && Below activity actions && Below stored actions && Below latched actions && Below good cases && Below bad cases
+
+abbrev pub belongsTo : ℕ → ℕ → ℕ → Run → Bool
+belongsTo steps actions cases r =
+    namesFit steps actions cases (r .active) (r .activity) (r .stored) (r .latched) (r .good) (r .bad)
+    && countersFit (r .counters) (r .active) && timersFit (r .timers) (r .latched)
+
+abbrev pub belongs : Chart → Run → Bool
+belongs c r = belongsTo (c .steps) (c .actions) (c .cases) r

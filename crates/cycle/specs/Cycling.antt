@@ -1,0 +1,109 @@
+-- Start and one cycle, for every argument.
+use Prim.Native.Nat.{ℕ, _≤_, _<_}
+use mathlib.Core.List.{List, _++_}
+use mathlib.Core.Bool.{cond}
+use lib.IntN.{ℤ}
+use lib.ListN.{getD, replicate, drop}
+use lib.Dec.{leb, eqb}
+use Rattle.sets.specs.Loops.{orElse}
+use Rattle.sets.specs.Sets.{union}
+use Rattle.reader.specs.Fields.{unless}
+use Rattle.reader.specs.Held.{chartCode}
+use Rattle.reader.specs.declared.chart.Chart.{Chart}
+use Rattle.cycle.specs.Run.{noRun}
+use Rattle.cycle.specs.Time.{elapsed, grownCounts, grownTimes}
+use Rattle.cycle.specs.Choosing.{chosen, stepsOf}
+use Rattle.cycle.specs.Moving.{settledCounters, settledTimers, signalsOf, marksOf, initialSet}
+use Rattle.cycle.specs.Acting.{asked, acted}
+use Rattle.cycle.specs.Outputs.{outputsOf}
+use Rattle.cycle.specs.Belongs.{belongs}
+use Rattle.cycle.specs.declared.choosing.Choice.{Choice}
+use Rattle.cycle.specs.declared.moving.Marks.{Marks}
+use Rattle.cycle.specs.declared.acting.Steps.{Steps}
+use Rattle.cycle.specs.declared.acting.Acted.{Acted}
+use Rattle.cycle.specs.declared.run.Run.{Run}
+use Rattle.cycle.specs.declared.cycling.Cycled.{Cycled}
+
+abbrev pub refused : ℕ → Run → Cycled
+refused code run = record { code = code; taken = 0; run = run }
+
+-- "Start tests 15 and then the chart"
+abbrev pub startCode : Chart → ℕ → ℕ
+startCode c lent = orElse (unless (leb 32 lent) 15) (chartCode c)
+
+-- "a cycle tests 15, chart, 12, 11"
+abbrev pub cycleCode : Chart → Run → ℕ → ℕ → ℕ
+cycleCode c r clock lent =
+    orElse (unless (leb 32 lent) 15)
+    (orElse (chartCode c) (orElse (unless (belongs c r) 12) (unless (leb (elapsed (r .clock) clock) 60000) 11)))
+
+-- what paragraphs 4 to 6 ask of lent outputs and tables: the outputs are 32 or more, and blocks and actions name only what exists
+pub record Settles (lent actions : ℕ) (output : List ℕ) (blocks : ℕ) (blockstep blockaction : List ℕ) : Type 0 where
+  pub enough : 32 ≤ lent
+  pub few : actions ≤ 32
+  pub driven : (a : ℕ) → a < actions → getD output a 0 < 32
+  pub limited : blocks ≤ 256
+  pub named : (k : ℕ) → k < blocks → (getD blockstep k 0 < 64) × (getD blockaction k 0 < 32)
+
+-- paragraphs 4 and 5 on a chart's blocks
+abbrev pub actedOn : Chart → List ℕ → List ℕ → Steps → ℕ → ℕ → Acted
+actedOn c counts times steps stored latched =
+    acted (asked (c .blocks) (c .blockstep) (c .blockaction) (c .qualifier) (c .duration) counts times steps) stored latched
+
+-- the run after paragraphs 4 to 6, and the transitions taken
+abbrev pub settled : ℕ → ℕ → List ℕ → List ℕ → Steps → Acted → ℕ → ℕ → Cycled
+settled clock taken counts times steps acts good bad = record {
+  code = 0;
+  taken = taken;
+  run = record {
+    clock = clock;
+    active = steps .active;
+    activity = acts .activity;
+    stored = acts .stored;
+    latched = acts .latched;
+    counters = settledCounters counts (steps .kept);
+    timers = settledTimers times (acts .latched);
+    good = good;
+    bad = bad;
+  };
+}
+
+-- "Start makes the initial steps active and entered, none left, all else 0, then does 4 to 6."
+abbrev pub startSteps : Chart → Steps
+startSteps c = record { active = initialSet (c .steps) (c .initial); entered = initialSet (c .steps) (c .initial); left = 0; kept = 0 }
+
+abbrev pub started : Chart → ℕ → Cycled
+started c clock =
+    settled clock 0 (replicate 64 0) (replicate 32 0) (startSteps c) (actedOn c (replicate 64 0) (replicate 32 0) (startSteps c) 0 0) 0 0
+
+-- "A refused start returns an all-zero run"
+abbrev pub startOf : Chart → ℕ → ℕ → Cycled
+startOf c clock lent = cond (eqb (startCode c lent) 0) (started c clock) (refused (startCode c lent) noRun)
+
+-- paragraph 2, from what held at the cycle's beginning
+abbrev pub choiceOf : Chart → Run → List ℕ → ℕ → Choice
+choiceOf c r counts signals =
+    chosen (c .transitions) (c .sources) (c .targets) (c .on) (c .off) (c .wait) counts (r .active) signals
+
+abbrev pub marksAt : Chart → ℕ → ℕ → Marks
+marksAt c left signals = marksOf (c .cases) (c .casestep) (c .signal) (c .expected) left signals
+
+-- paragraphs 3 to 6 with what was chosen
+abbrev pub movedBy : Chart → Run → ℕ → List ℕ → List ℕ → ℕ → Choice → Cycled
+movedBy c r clock counts times signals ch =
+    settled clock (ch .taken) counts times (stepsOf (r .active) ch) (actedOn c counts times (stepsOf (r .active) ch) (r .stored) (r .latched))
+    (union (r .good) (marksAt c (ch .left) signals .good)) (union (r .bad) (marksAt c (ch .left) signals .bad))
+
+abbrev pub cycled : Chart → Run → ℕ → ℕ → Cycled
+cycled c r clock inputs =
+    movedBy c r clock (grownCounts (r .counters) (r .active) (elapsed (r .clock) clock)) (grownTimes (r .timers) (r .latched) (elapsed (r .clock) clock)) (signalsOf inputs (r .activity))
+    (choiceOf c r (grownCounts (r .counters) (r .active) (elapsed (r .clock) clock)) (signalsOf inputs (r .activity)))
+
+-- "A refused .. cycle [returns] the run it was given .. with no transition taken"
+abbrev pub cycleOf : Chart → Run → ℕ → ℕ → ℕ → Cycled
+cycleOf c r clock inputs lent = cond (eqb (cycleCode c r clock lent) 0) (cycled c r clock inputs) (refused (cycleCode c r clock lent) r)
+
+-- "Lent outputs stay untouched by a refusal; an accepted call writes the first 32 and no others."
+abbrev pub outputsAfter : Chart → Cycled → List ℤ → List ℤ
+outputsAfter c o out =
+    cond (eqb (o .code) 0) (outputsOf (c .actions) (c .output) (c .value) (o .run .activity) ++ drop 32 out) out

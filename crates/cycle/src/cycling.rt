@@ -1,0 +1,241 @@
+// Start and one cycle, each on a chart and a run by value, with the chart's tables lent to what is below.
+ghost use mathlib.Core.Path.{_≡_};
+ghost use mathlib.Core.List.{_++_};
+ghost use lib.ListN.{length, drop};
+ghost use Rattle.cycle.specs.Acting.{asked, acted};
+ghost use Rattle.cycle.specs.Outputs.{outputsOf};
+ghost use Rattle.cycle.specs.Cycling.{Settles, startOf, cycleOf, outputsAfter, refused};
+use crate::acting;
+use crate::acting::Acted;
+use crate::acting::Steps;
+use crate::belongs;
+use crate::choosing;
+use crate::codes::FEW_OUTPUTS;
+use crate::codes::OTHER_RUN;
+use crate::codes::TOO_LATE;
+use crate::moving;
+use crate::outputs;
+use crate::run::Run;
+use crate::run::no_run;
+use crate::time;
+use reader::Chart;
+
+pub struct Cycled {
+    pub code: u8,
+    pub taken: u64,
+    pub run: Run,
+}
+
+fn refused(code: u8, run: Run) -> Cycled
+    ensures { λ r. ⌜ r ≡ refused code run ⌝ }
+{
+    Cycled {
+        code,
+        taken: 0,
+        run,
+    }
+}
+
+// Paragraphs 4 to 6, which start and cycle share.
+fn settle<'a>(
+    outputs: &mut [i32],
+    actions: usize,
+    output: &'a [u8; 32],
+    value: &'a [i32; 32],
+    blocks: usize,
+    blockstep: &'a [u8; 256],
+    blockaction: &'a [u8; 256],
+    qualifier: &'a [u8; 256],
+    duration: &'a [u32; 256],
+    counts: &'a [u32; 64],
+    times: &'a [u32; 32],
+    steps: Steps,
+    stored: u64,
+    latched: u64,
+) -> Acted
+    requires { ⌜ Settles (length (now outputs)) actions (now output) blocks (now blockstep) (now blockaction) ⌝ }
+    ensures { λ r. ⌜ (r ≡ acted (asked blocks (now (blockstep .entry)) (now (blockaction .entry)) (now (qualifier .entry)) (now (duration .entry)) (now (counts .entry)) (now (times .entry)) steps) stored latched) × (now (outputs .exit) ≡ outputsOf actions (now (output .entry)) (now (value .entry)) (r .activity) ++ drop 32 (now (outputs .entry))) ⌝ }
+{
+    let asked = acting::ask_blocks(
+        blocks,
+        blockstep,
+        blockaction,
+        qualifier,
+        duration,
+        counts,
+        times,
+        steps,
+    );
+    let acts = acting::act(asked, stored, latched);
+    outputs::write_outputs(outputs, actions, output, value, acts.activity);
+    acts
+}
+
+pub fn start(chart: Chart, clock: u32, outputs: &mut [i32]) -> Cycled
+    ensures { λ r. ⌜ (r ≡ startOf chart clock (length (now (outputs .entry)))) × (now (outputs .exit) ≡ outputsAfter chart r (now (outputs .entry))) ⌝ }
+{
+    if outputs.len() < 32 {
+        return refused(FEW_OUTPUTS, no_run());
+    }
+    let code = reader::held_code(
+        chart.steps,
+        chart.actions,
+        chart.transitions,
+        chart.blocks,
+        chart.cases,
+        &chart.initial,
+        &chart.output,
+        &chart.sources,
+        &chart.targets,
+        &chart.on,
+        &chart.off,
+        &chart.wait,
+        &chart.blockstep,
+        &chart.blockaction,
+        &chart.qualifier,
+        &chart.duration,
+        &chart.casestep,
+        &chart.signal,
+        &chart.expected,
+    );
+    if code != 0 {
+        return refused(code, no_run());
+    }
+    let initial = moving::initial_set(chart.steps, &chart.initial);
+    let counts = [0u32; 64];
+    let times = [0u32; 32];
+    let steps = Steps {
+        active: initial,
+        entered: initial,
+        left: 0,
+        kept: 0,
+    };
+    let acts = settle(
+        outputs,
+        chart.actions,
+        &chart.output,
+        &chart.value,
+        chart.blocks,
+        &chart.blockstep,
+        &chart.blockaction,
+        &chart.qualifier,
+        &chart.duration,
+        &counts,
+        &times,
+        steps,
+        0,
+        0,
+    );
+    let run = Run {
+        clock,
+        active: initial,
+        activity: acts.activity,
+        stored: acts.stored,
+        latched: acts.latched,
+        counters: moving::settled_counters(&counts, 0),
+        timers: moving::settled_timers(&times, acts.latched),
+        good: 0,
+        bad: 0,
+    };
+    Cycled {
+        code: 0,
+        taken: 0,
+        run,
+    }
+}
+
+pub fn cycle(chart: Chart, run: Run, clock: u32, inputs: u32, outputs: &mut [i32]) -> Cycled
+    ensures { λ r. ⌜ (r ≡ cycleOf chart run clock inputs (length (now (outputs .entry)))) × (now (outputs .exit) ≡ outputsAfter chart r (now (outputs .entry))) ⌝ }
+{
+    if outputs.len() < 32 {
+        return refused(FEW_OUTPUTS, run);
+    }
+    let code = reader::held_code(
+        chart.steps,
+        chart.actions,
+        chart.transitions,
+        chart.blocks,
+        chart.cases,
+        &chart.initial,
+        &chart.output,
+        &chart.sources,
+        &chart.targets,
+        &chart.on,
+        &chart.off,
+        &chart.wait,
+        &chart.blockstep,
+        &chart.blockaction,
+        &chart.qualifier,
+        &chart.duration,
+        &chart.casestep,
+        &chart.signal,
+        &chart.expected,
+    );
+    if code != 0 {
+        return refused(code, run);
+    }
+    if !belongs::belongs(run, chart.steps, chart.actions, chart.cases) {
+        return refused(OTHER_RUN, run);
+    }
+    let e = time::elapsed(run.clock, clock);
+    if 60000 < e {
+        return refused(TOO_LATE, run);
+    }
+    let counters = run.counters;
+    let timers = run.timers;
+    let counts = time::grown_counts(counters, run.active, e);
+    let times = time::grown_times(timers, run.latched, e);
+    let signals = moving::signals_of(inputs, run.activity);
+    let choice = choosing::choose(
+        chart.transitions,
+        &chart.sources,
+        &chart.targets,
+        &chart.on,
+        &chart.off,
+        &chart.wait,
+        &counts,
+        run.active,
+        signals,
+    );
+    let steps = choosing::steps_of(run.active, choice);
+    let marks = moving::marks_of(
+        chart.cases,
+        &chart.casestep,
+        &chart.signal,
+        &chart.expected,
+        choice.left,
+        signals,
+    );
+    let acts = settle(
+        outputs,
+        chart.actions,
+        &chart.output,
+        &chart.value,
+        chart.blocks,
+        &chart.blockstep,
+        &chart.blockaction,
+        &chart.qualifier,
+        &chart.duration,
+        &counts,
+        &times,
+        steps,
+        run.stored,
+        run.latched,
+    );
+    let next = Run {
+        clock,
+        active: steps.active,
+        activity: acts.activity,
+        stored: acts.stored,
+        latched: acts.latched,
+        counters: moving::settled_counters(&counts, steps.kept),
+        timers: moving::settled_timers(&times, acts.latched),
+        good: sets::joined(run.good, marks.good),
+        bad: sets::joined(run.bad, marks.bad),
+    };
+    Cycled {
+        code: 0,
+        taken: choice.taken,
+        run: next,
+    }
+}

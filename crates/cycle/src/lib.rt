@@ -1,0 +1,16 @@
+// The run of a chart: start, one cycle, and the test of a held run (document 01, "One cycle").
+pub mod acting;
+pub mod belongs;
+pub mod choosing;
+pub mod codes;
+pub mod cycling;
+pub mod moving;
+pub mod outputs;
+pub mod run;
+pub mod time;
+
+pub use cycling::Cycled;
+pub use cycling::cycle;
+pub use cycling::start;
+pub use run::Run;
+pub use run::no_run;

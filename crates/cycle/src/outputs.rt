@@ -1,0 +1,54 @@
+// Paragraph 6 of "One cycle": the outputs, in one pass from the last action to the first, so that the first active one wins.
+ghost use mathlib.Core.Path.{_≡_};
+ghost use mathlib.Core.Bool.{cond};
+ghost use mathlib.Core.List.{_++_};
+ghost use Prim.Native.Nat.{ℕ, _≤_, _<_};
+ghost use lib.ListN.{length, getD, drop};
+ghost use Rattle.cycle.specs.Outputs.{outputsOf, wiped, driven};
+use crate::acting;
+
+fn wipe(out: &mut [i32])
+    requires { ⌜ 32 ≤ length (now out) ⌝ }
+    ensures { λ _. ⌜ now (out .exit) ≡ wiped (now (out .entry)) ⌝ }
+{
+    let mut o = 0;
+    while o < 32 {
+        out[o] = 0;
+        o += 1;
+    }
+}
+
+fn pick(b: bool, x: i32, y: i32) -> i32
+    ensures { λ r. ⌜ r ≡ cond b x y ⌝ }
+{
+    if b { x } else { y }
+}
+
+// Each output's first active action drives it; an output that none drives keeps what it had.
+fn drive<'a>(out: &mut [i32], n: usize, output: &'a [u8; 32], value: &'a [i32; 32], activity: u64)
+    requires { ⌜ (32 ≤ length (now out)) × (n ≤ 32) × ((a : ℕ) → a < n → getD (now output) a 0 < 32) ⌝ }
+    ensures { λ _. ⌜ now (out .exit) ≡ driven n (now (output .entry)) (now (value .entry)) activity (now (out .entry)) ⌝ }
+{
+    let mut a = n;
+    while 0 < a {
+        a -= 1;
+        let to = acting::index_of(output[a]);
+        let old = out[to];
+        let new = value[a];
+        out[to] = pick(sets::is_in(activity, a), new, old);
+    }
+}
+
+pub(crate) fn write_outputs<'a>(
+    out: &mut [i32],
+    n: usize,
+    output: &'a [u8; 32],
+    value: &'a [i32; 32],
+    activity: u64,
+)
+    requires { ⌜ (32 ≤ length (now out)) × (n ≤ 32) × ((a : ℕ) → a < n → getD (now output) a 0 < 32) ⌝ }
+    ensures { λ _. ⌜ now (out .exit) ≡ outputsOf n (now (output .entry)) (now (value .entry)) activity ++ drop 32 (now (out .entry)) ⌝ }
+{
+    wipe(out);
+    drive(out, n, output, value, activity);
+}

@@ -1,0 +1,67 @@
+// A run as it is held. Step counters and action timers are two types: one is never handed over for the other.
+ghost use mathlib.Core.Path.{_≡_};
+ghost use Rattle.cycle.specs.Run.{noRun, longerCounter, longerTimer};
+
+pub struct StepCounter(pub u32);
+
+pub struct ActionTimer(pub u32);
+
+pub struct Run {
+    pub clock: u32,
+    pub active: u64,
+    pub activity: u64,
+    pub stored: u64,
+    pub latched: u64,
+    pub counters: [StepCounter; 64],
+    pub timers: [ActionTimer; 32],
+    pub good: u64,
+    pub bad: u64,
+}
+
+pub const LONGEST: u32 = 86_400_000;
+
+impl StepCounter {
+    pub fn longer(self, elapsed: u32) -> StepCounter
+        ensures { λ r. ⌜ r ≡ longerCounter elapsed self ⌝ }
+    {
+        let n = self.0;
+        if LONGEST <= n {
+            return StepCounter(LONGEST);
+        }
+        if LONGEST - n <= elapsed {
+            return StepCounter(LONGEST);
+        }
+        StepCounter(n + elapsed)
+    }
+}
+
+impl ActionTimer {
+    pub fn longer(self, elapsed: u32) -> ActionTimer
+        ensures { λ r. ⌜ r ≡ longerTimer elapsed self ⌝ }
+    {
+        let n = self.0;
+        if LONGEST <= n {
+            return ActionTimer(LONGEST);
+        }
+        if LONGEST - n <= elapsed {
+            return ActionTimer(LONGEST);
+        }
+        ActionTimer(n + elapsed)
+    }
+}
+
+pub fn no_run() -> Run
+    ensures { λ r. ⌜ r ≡ noRun ⌝ }
+{
+    Run {
+        clock: 0,
+        active: 0,
+        activity: 0,
+        stored: 0,
+        latched: 0,
+        counters: [StepCounter(0); 64],
+        timers: [ActionTimer(0); 32],
+        good: 0,
+        bad: 0,
+    }
+}
