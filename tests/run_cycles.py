@@ -1,0 +1,542 @@
+#!/usr/bin/env python3
+"""The stored cases of the program run_cycles: its input, and the output that document 01 asks for.
+
+  tests/run_cycles.py           write crates/run_cycles/stdin and stdout
+  tests/run_cycles.py --check   say whether they are what this file says
+
+The lines come from a plain model of document 01's start and cycle; nothing here runs the engine. Every case also
+states facts derived from document 01 by hand, and nothing is written unless the model agrees with all of them.
+Numbers 1 to 6 in the comments are the numbered rules under "One cycle".
+"""
+import struct
+import sys
+from collections import namedtuple
+
+sys.dont_write_bytecode = True  # leave no folder beside read_charts.py
+from read_charts import (  # noqa: E402
+    CHART_A, D, DAY, DS, END, L, N, P, P0, P1, R, ROOT, S, SD, SL, action, block, case, members, step, transition,
+)
+
+# The chart, taken apart
+
+Step = namedtuple("Step", "initial")
+Action = namedtuple("Action", "output value")
+Transition = namedtuple("Transition", "sources targets on off wait")
+Block = namedtuple("Block", "step action qualifier duration")
+Case = namedtuple("Case", "step signal expected")
+Chart = namedtuple("Chart", "steps actions transitions blocks cases")
+KINDS = {1: (Step, "<B"), 2: (Action, "<Bi"), 3: (Transition, "<QQQQI"), 4: (Block, "<BBBI"), 5: (Case, "<BBB")}
+TIMED = (L, D, SD, DS, SL)
+
+
+def numbers(word):
+    return {k for k in range(64) if word >> k & 1}
+
+
+def parse(data):
+    """The chart of a valid file."""
+    found, place, kind = {1: [], 2: [], 3: [], 4: [], 5: []}, 0, None
+    while kind != 0:
+        length, kind = struct.unpack_from("<HH", data, place)
+        if kind in KINDS:
+            form, layout = KINDS[kind]
+            found[kind].append(form(*struct.unpack_from(layout, data, place + 4)))
+        place += 4 + length
+    assert place == len(data)
+    words = [[numbers(t.sources), numbers(t.targets), numbers(t.on), numbers(t.off), t.wait] for t in found[3]]
+    return Chart(found[1], found[2], [Transition(*w) for w in words], found[4], found[5])
+
+
+def check_valid(chart):
+    """Document 01's refusals 4 to 9, so that no case has a chart that the engine would refuse."""
+    steps, actions = set(range(len(chart.steps))), set(range(len(chart.actions)))
+    signals = set(range(32)) | {32 + k for k in actions}
+    assert all(len(entries) <= limit for entries, limit in zip(chart, (64, 32, 64, 256, 64)))
+    assert any(s.initial for s in chart.steps) and all(a.output < 32 for a in chart.actions)
+    for t in chart.transitions:
+        assert t.sources and t.targets and not t.sources & t.targets and not t.on & t.off
+        assert t.sources | t.targets <= steps and t.on | t.off <= signals and t.wait <= DAY
+    for b in chart.blocks:
+        assert b.step in steps and b.action in actions and b.qualifier <= 10
+        assert b.duration <= (DAY if b.qualifier in TIMED else 0)
+    timed = [b.action for b in chart.blocks if b.qualifier in TIMED]
+    assert len(timed) == len(set(timed))
+    assert all(c.step in steps and c.signal in signals and c.expected <= 1 for c in chart.cases)
+
+
+# The model: counters holds the active steps only, timers the latched actions only
+
+Run = namedtuple("Run", "clock active activity stored latched good bad counters timers")
+Answer = namedtuple("Answer", "code taken run outputs")
+
+
+def start(chart, clock):
+    initial = {k for k, s in enumerate(chart.steps) if s.initial}
+    run = Run(clock, initial, set(), set(), set(), set(), set(), {k: 0 for k in initial}, {})
+    return act(chart, run, set(), entered=initial, left=set())
+
+
+def cycle(chart, run, lent, clock, inputs):
+    elapsed = (clock - run.clock) % 2**32
+    if elapsed > 60_000:
+        return Answer(11, set(), run, lent)
+    signals = set(inputs) | {32 + k for k in run.activity}
+    grown = run._replace(clock=clock, counters=grow(run.counters, elapsed), timers=grow(run.timers, elapsed))
+    taken, left, entered = take(chart, grown, signals)
+    moved = mark(chart, move(grown, left, entered), signals, left)
+    return act(chart, moved, taken, entered, left)
+
+
+def grow(times, elapsed):  # rule 1
+    return {k: min(time + elapsed, DAY) for k, time in times.items()}
+
+
+def take(chart, run, signals):  # rule 2
+    taken, left, entered = set(), set(), set()
+    for number, t in enumerate(chart.transitions):
+        sources_free = t.sources <= run.active and not t.sources & left
+        told = t.on <= signals and not t.off & signals
+        targets_free = not t.targets & run.active and not t.targets & entered
+        if sources_free and told and targets_free and all(run.counters[k] >= t.wait for k in t.sources):
+            taken.add(number)
+            left |= t.sources
+            entered |= t.targets
+    return taken, left, entered
+
+
+def move(run, left, entered):  # rule 3, steps
+    active = (run.active - left) | entered
+    return run._replace(active=active, counters={k: 0 if k in entered else run.counters[k] for k in active})
+
+
+def mark(chart, run, signals, left):  # rule 3, cases
+    good, bad = set(run.good), set(run.bad)
+    for number, c in enumerate(chart.cases):
+        if c.step in left:
+            equal = (c.signal in signals) == (c.expected == 1)
+            (good if equal else bad).add(number)
+    return run._replace(good=good, bad=bad)
+
+
+def act(chart, run, taken, entered, left):
+    run, reset = remember(chart, run)
+    activity = {
+        number for number in range(len(chart.actions))
+        if number not in reset
+        and (number in run.stored or any(drives(b, run, entered, left) for b in chart.blocks if b.action == number))
+    }
+    return Answer(0, taken, run._replace(activity=activity), outputs_of(chart, activity))
+
+
+def remember(chart, run):  # rule 4
+    here = [b for b in chart.blocks if b.step in run.active]
+    reset = {b.action for b in here if b.qualifier == R}
+    stored, latched = run.stored - reset, run.latched - reset
+    for b in here:
+        late = b.qualifier == DS and run.counters[b.step] >= b.duration
+        if b.action not in reset and (b.qualifier == S or late):
+            stored = stored | {b.action}
+        if b.action not in reset and b.qualifier in (SD, SL):
+            latched = latched | {b.action}
+    timers = {k: run.timers.get(k, 0) for k in latched}
+    return run._replace(stored=stored, latched=latched, timers=timers), reset
+
+
+def drives(b, run, entered, left):  # rule 5, one block; R, S and DS act through rule 4 alone
+    here, latched = b.step in run.active, b.action in run.latched
+    return (
+        (b.qualifier == N and here)
+        or (b.qualifier == L and here and run.counters[b.step] < b.duration)
+        or (b.qualifier == D and here and run.counters[b.step] >= b.duration)
+        or (b.qualifier == SD and latched and run.timers[b.action] >= b.duration)
+        or (b.qualifier == SL and latched and run.timers[b.action] < b.duration)
+        or (b.qualifier in (P1, P) and b.step in entered)
+        or (b.qualifier in (P0, P) and b.step in left)
+    )
+
+
+def outputs_of(chart, activity):  # rule 6
+    outputs = [0] * 32
+    for number in sorted(activity, reverse=True):  # the first in the table writes last
+        outputs[chart.actions[number].output] = chart.actions[number].value
+    return outputs
+
+
+# The line of a call, and the comparison with the facts
+
+def line(answer):
+    run = answer.run
+    words = [answer.code, members(answer.taken), run.clock]
+    words += [members(s) for s in (run.active, run.activity, run.stored, run.latched, run.good, run.bad)]
+    words += ["c"] + [f"{k}:{v}" for k, v in sorted(run.counters.items()) if v]
+    words += ["t"] + [f"{k}:{v}" for k, v in sorted(run.timers.items()) if v]
+    return " ".join(map(str, words + ["o"] + answer.outputs))
+
+
+def facts_of(answer):
+    """Sets as they are; counters, timers and outputs without those that are 0."""
+    facts = {"code": answer.code, "taken": answer.taken, **answer.run._asdict()}
+    facts["outputs"] = dict(enumerate(answer.outputs))
+    for name in ("counters", "timers", "outputs"):
+        facts[name] = {k: v for k, v in facts[name].items() if v != 0}
+    return facts
+
+
+def compare(name, answers, expect):
+    for number, facts in expect.items():
+        model = facts_of(answers[number])
+        for fact, value in facts.items():
+            said = set(value) if isinstance(model[fact], set) else value
+            if said != model[fact]:
+                sys.exit(f"{name}, call {number}, {fact}: by hand {said}, by the model {model[fact]}")
+
+
+# The cases. A call is its milliseconds since the start, and its inputs as a set; the start is call 0.
+
+CASES = []
+
+
+def show(name, chart, calls, expect=None, start=5000, **by_call):
+    """A case with its facts by hand: expect has them for some calls, by_call a list of one fact for all, the start's first."""
+    assert all(len(values) == 1 + len(calls) for values in by_call.values()), name
+    columns = {number: dict(zip(by_call, row)) for number, row in enumerate(zip(*by_call.values()))}
+    assert bool(expect) != bool(columns), name
+    CASES.append((name, chart, start, [((start + ms) % 2**32, inputs) for ms, inputs in calls], expect or columns))
+
+
+def steps(count, initial=(0,)):
+    return b"".join(step(k in initial) for k in range(count))
+
+
+def actions(count):
+    return b"".join(action(k, 10 + k) for k in range(count))
+
+
+def net(count, initial, *moves):
+    """Steps, and transitions written as what transition() takes."""
+    return steps(count, initial) + b"".join(transition(*move) for move in moves) + END
+
+
+def swing(count, *rest):
+    """Step 0 to step 1 on input 0 and back on input 1, with some actions."""
+    return steps(2) + actions(count) + THERE + BACK + b"".join(rest) + END
+
+
+def path(count, *rest):
+    """Step 0 to step 1 on input 0 and on to step 2 on input 1, with some actions."""
+    return steps(3) + actions(count) + THERE + ON + b"".join(rest) + END
+
+
+THERE, BACK, ON = transition([0], [1], on=[0]), transition([1], [0], on=[1]), transition([1], [2], on=[1])
+ALONE = steps(1) + END
+TURN = 4_294_967_000
+
+# "Chart A": its trace; "last clock 1509: no transition, activity 3, case not run"; "output 0 is 120, by table order"
+show("chart A", CHART_A, [(10, {0}), (510, {1})], {
+    0: dict(taken={}, active={0}, activity={}, outputs={}),
+    1: dict(taken={0}, active={1}, activity={0, 1}, stored={1}, counters={}, outputs={0: 120}),
+    2: dict(taken={1}, active={0}, activity={}, stored={}, good={0}, bad={}, outputs={}, clock=1510),
+}, start=1000)
+show("chart A, last clock 1509", CHART_A, [(10, {0}), (509, {1})], {
+    2: dict(taken={}, active={1}, activity={0, 1}, good={}, bad={}, counters={1: 499}, outputs={0: 120}),
+}, start=1000)
+
+# 1: elapsed time is the new reading minus the last, modulo 2^32
+show("the clock turns: elapsed 496", ALONE, [(496, {})], clock=[TURN, 200], counters=[{}, {0: 496}], start=TURN)
+show("the last reading before the turn", ALONE, [(1, {})], clock=[2**32 - 1, 0], counters=[{}, {0: 1}], start=2**32 - 1)
+show("elapsed 0", ALONE, [(0, {}), (7, {}), (7, {})], code=[0, 0, 0, 0], counters=[{}, {}, {0: 7}, {0: 7}])
+# 1: "Every step counter of an active step and every timer of a latched action", and no other
+show("counters and timers grow", steps(3, [0, 1]) + actions(2) + block(1, 1, SL, 5) + block(2, 0, SL, 5) + END,
+     [(3, {}), (13, {})], counters=[{}, {0: 3, 1: 3}, {0: 13, 1: 13}], timers=[{}, {1: 3}, {1: 13}], latched=[{1}] * 3)
+# 11: "elapsed 60,000 accepted; 60,001 refused 11; clock one back refused 11"; a refused cycle returns the run it was given
+show("elapsed 60,000", ALONE, [(60_000, {})], code=[0, 0], counters=[{}, {0: 60_000}])
+show("elapsed 60,001, and the run goes on", ALONE, [(60_001, {}), (60_000, {}), (120_001, {}), (120_000, {})],
+     code=[0, 11, 0, 11, 0], clock=[5000, 5000, 65_000, 65_000, 125_000],
+     counters=[{}, {}, {0: 60_000}, {0: 60_000}, {0: 120_000}])
+show("clock one back, and the run goes on", ALONE, [(-1, {}), (1, {}), (0, {}), (1, {}), (3, {})],
+     code=[0, 11, 0, 11, 0, 0], clock=[5000, 5000, 5001, 5001, 5001, 5003],
+     counters=[{}, {}, {0: 1}, {0: 1}, {0: 1}, {0: 3}])
+show("one back from 0", ALONE, [(-1, {})], code=[0, 11], clock=[0, 0], start=0)
+show("half a turn", ALONE, [(2**31, {}), (2**31 - 1, {})], code=[0, 11, 11], clock=[5000] * 3)
+show("the limit over the turn", ALONE, [(60_001, {}), (60_000, {})], code=[0, 11, 0], clock=[TURN, TURN, 59_704], start=TURN)
+KEPT = dict(code=11, taken={}, clock=5010, active={1}, activity={0, 1}, good={}, timers={0: 10}, outputs={0: 10, 1: 11})
+show("a refused cycle takes, marks and writes nothing", swing(2, block(0, 0, SD, 9), block(1, 1, N), case(1, 1, 1)),
+     [(10, {0}), (70_000, {1}), (9, {1}), (11, {1})], {
+         1: {**KEPT, "code": 0, "taken": {0}}, 2: KEPT, 3: KEPT,
+         4: dict(code=0, taken={1}, clock=5011, active={0}, activity={0}, good={0}, timers={0: 11}, outputs={0: 10})})
+# 1: "stopping at 86,400,000". Step 1 is entered 1 ms after the latches, so call 1441 stands at timer DAY and counter DAY - 1,
+# and call 1442 stops both. In call 1444 the transition finds its wait of DAY still reached.
+LONGEST = {0: 86_400_000, 3: 86_400_000}
+show("the longest counter and timer",
+     steps(3) + actions(4) + THERE + transition([1], [2], on=[1], wait=DAY)
+     + block(0, 0, SD, DAY) + block(1, 1, D, DAY) + block(1, 2, L, DAY) + block(0, 3, SL, DAY) + END,
+     [(1, {0})] + [(60_000 * k, {1}) for k in range(1, 1441)]
+     + [(86_460_000, {}), (86_520_000, {}), (86_520_000, {1}), (86_520_009, {})], {
+         1: dict(taken={0}, counters={}, timers={0: 1, 3: 1}, activity={2, 3}),
+         1440: dict(taken={}, counters={1: 86_339_999}, timers={0: 86_340_000, 3: 86_340_000}, activity={2, 3}),
+         1441: dict(taken={}, counters={1: 86_399_999}, timers=LONGEST, activity={0, 2}),
+         1442: dict(taken={}, counters={1: 86_400_000}, timers=LONGEST, activity={0, 1}),
+         1443: dict(taken={}, counters={1: 86_400_000}, timers=LONGEST, activity={0, 1}),
+         1444: dict(taken={1}, counters={}, timers=LONGEST, activity={0}),
+         1445: dict(taken={}, counters={2: 9}, timers=LONGEST, activity={0})})
+
+# 2: "in number order"; sources "are not a source of one already taken"
+show("two rivals for a source", net(3, [0], ([0], [1]), ([0], [2])), [(10, {})], taken=[{}, {0}], active=[{0}, {1}])
+show("a rival that is not told does not block", steps(3) + THERE + transition([0], [2]) + END, [(10, {})],
+     taken=[{}, {1}], active=[{0}, {2}])
+show("a rival whose target is active does not block", net(3, [0, 1], ([0], [1]), ([0], [2])), [(10, {})],
+     taken=[{}, {1}], active=[{0, 1}, {1, 2}])
+show("{a}, {a, b}, {b}: the first and the third", net(5, [0, 1], ([0], [2]), ([0, 1], [3]), ([1], [4])), [(10, {})],
+     taken=[{}, {0, 2}], active=[{0, 1}, {2, 4}])
+show("{a, b}, {a}, {b}: the first alone", net(5, [0, 1], ([0, 1], [3]), ([0], [2]), ([1], [4])), [(10, {})],
+     taken=[{}, {0}], active=[{0, 1}, {3}])
+# 2: "each target was inactive at the beginning and is not a target of one already taken"
+show("two rivals for a target", net(3, [0, 1], ([0], [2]), ([1], [2])), [(10, {}), (20, {})],
+     taken=[{}, {0}, {}], active=[{0, 1}, {1, 2}, {1, 2}])
+show("two rivals for a target, the first not told", net(3, [0, 1], ([0], [2], [0]), ([1], [2])), [(10, {})],
+     taken=[{}, {1}], active=[{0, 1}, {0, 2}])
+show("one target of two is claimed", net(5, [0, 1], ([0], [2, 3]), ([1], [3, 4])), [(10, {})],
+     taken=[{}, {0}], active=[{0, 1}, {1, 2, 3}])
+show("one target of two is active", net(3, [0, 2], ([0], [1, 2])), [(10, {})], taken=[{}, {}], active=[{0, 2}, {0, 2}])
+# "A target so tested lets a step left in this cycle be entered in it": in both orders of the two
+show("a target that is left", net(3, [0, 1], ([0], [1]), ([1], [2])), [(10, {}), (20, {}), (30, {})],
+     taken=[{}, {1}, {0}, {}], active=[{0, 1}, {0, 2}, {1, 2}, {1, 2}])
+show("a target that an earlier one has left", net(3, [0, 1], ([1], [2]), ([0], [1])), [(10, {}), (20, {})],
+     taken=[{}, {0}, {1}], active=[{0, 1}, {0, 2}, {1, 2}])
+show("two steps do not change places", net(2, [0, 1], ([0], [1]), ([1], [0])), [(10, {})],
+     taken=[{}, {}], active=[{0, 1}, {0, 1}])
+# "Testing a source against the half-updated step set: a chain of steps then runs through in one cycle"
+show("a chain of steps", net(4, [0], ([0], [1]), ([1], [2]), ([2], [3])), [(1, {}), (2, {}), (3, {}), (4, {})],
+     taken=[{}, {0}, {1}, {2}, {}], active=[{0}, {1}, {2}, {3}, {3}])
+show("the chain numbered backwards", net(4, [0], ([2], [3]), ([1], [2]), ([0], [1])), [(1, {}), (2, {}), (3, {})],
+     taken=[{}, {2}, {1}, {0}], active=[{0}, {1}, {2}, {3}])
+# 2: "all its sources were active at the cycle's beginning"
+show("fork and join", net(4, [0], ([0], [1, 2]), ([1, 2], [3]), ([3], [0])), [(1, {}), (2, {}), (3, {})],
+     taken=[{}, {0}, {1}, {2}], active=[{0}, {1, 2}, {3}, {0}])
+show("a source that is not active", net(3, [0], ([0, 1], [2])), [(1, {})], taken=[{}, {}], active=[{0}, {0}])
+show("a source that becomes active", net(4, [0, 1], ([1], [2]), ([0, 2], [3])), [(1, {}), (2, {})],
+     taken=[{}, {0}, {1}], active=[{0, 1}, {0, 2}, {3}])
+# 2: "every 'on' signal is 1 and every 'off' signal 0"
+show("inputs on and off", net(2, [0], ([0], [1], [0, 31], [5])),
+     [(1, {}), (2, {0}), (3, {31}), (4, {0, 5, 31}), (5, {0, 7, 31})], taken=[{}, {}, {}, {}, {}, {0}])
+show("every input in use", net(2, [0], ([0], [1], range(0, 32, 2), range(1, 32, 2))),
+     [(1, range(32)), (2, {*range(0, 32, 2), 31}), (3, range(0, 30, 2)), (4, range(0, 32, 2))], taken=[{}, {}, {}, {}, {0}])
+# "signal 32+k is the activity of action k as the previous call left it"
+show("an activity on", steps(2) + actions(1) + transition([0], [1], on=[32]) + block(0, 0, D, 10) + END,
+     [(9, range(32)), (10, range(32)), (10, {})], taken=[{}, {}, {}, {0}], activity=[{}, {}, {0}, {}])
+show("an activity off", steps(2) + actions(2) + transition([0], [1], off=[33]) + block(0, 1, L, 10) + END,
+     [(9, {}), (10, {}), (11, {})], taken=[{}, {}, {}, {0}], activity=[{1}, {1}, {}, {}])
+show("the activity of action 31", steps(2) + actions(32) + transition([0], [1], on=[63], off=[62]) + block(0, 31, P1) + END,
+     [(1, {})], taken=[{}, {0}], activity=[{31}, {}])
+show("an activity after refused cycles", steps(2) + actions(1) + transition([0], [1], on=[32]) + block(0, 0, P1) + END,
+     [(60_001, {}), (-1, {}), (5, {})], code=[0, 11, 11, 0], taken=[{}, {}, {}, {0}], activity=[{0}, {0}, {0}, {}])
+# 2: "each source's counter has reached the wait"
+for wait, reached in {0: {0, 1, 2, 499, 500, 501}, 1: {1, 2, 499, 500, 501}, 500: {500, 501}}.items():
+    chart = steps(2) + transition([0], [1], wait=wait) + END
+    for ms in (0, 1, 2, 499, 500, 501):
+        show(f"wait {wait} at {ms}", chart, [(ms, {})], taken=[{}, {0} if ms in reached else {}])
+show("two sources with different counters", net(4, [0, 1], ([1], [2], [0]), ([0, 2], [3], [], [], 100)),
+     [(50, {0}), (100, {}), (149, {}), (150, {})],
+     taken=[{}, {0}, {}, {}, {1}], counters=[{}, {0: 50}, {0: 100, 2: 50}, {0: 149, 2: 99}, {}])
+show("the wait begins anew on entering", net(2, [0], ([0], [1]), ([1], [0], [], [], 100)),
+     [(50, {}), (149, {}), (150, {}), (160, {}), (259, {}), (260, {})], taken=[{}, {0}, {}, {1}, {0}, {}, {1}])
+
+# 3: "A step entered or inactive has counter 0", and the others go on
+show("counters of steps entered and left", steps(3, [0, 2]) + THERE + BACK + END, [(40, {0}), (50, {}), (60, {1}), (65, {})],
+     active=[{0, 2}, {1, 2}, {1, 2}, {0, 2}, {0, 2}], counters=[{}, {2: 40}, {1: 10, 2: 50}, {2: 60}, {0: 5, 2: 65}])
+# 3: "For each case on a left step, the signal of this cycle is compared": case 0 is on step 1, which input 1 leaves
+INPUT_5 = swing(0, case(1, 5, 1))
+show("good", INPUT_5, [(10, {0}), (20, {1, 5})], good=[{}, {}, {0}], bad=[{}, {}, {}])
+show("bad", INPUT_5, [(10, {0}), (20, {1})], good=[{}, {}, {}], bad=[{}, {}, {0}])
+show("expected 0", swing(0, case(1, 5, 0)), [(10, {0}), (20, {1})], good=[{}, {}, {0}], bad=[{}, {}, {}])
+show("expected 0, bad", swing(0, case(1, 5, 0)), [(10, {0}), (20, {1, 5})], good=[{}, {}, {}], bad=[{}, {}, {0}])
+show("left twice, good and then bad", INPUT_5, [(10, {0}), (20, {1, 5}), (30, {0}), (40, {1})],
+     good=[{}, {}, {0}, {0}, {0}], bad=[{}, {}, {}, {}, {0}])
+show("left twice, bad and then good", INPUT_5, [(10, {0}), (20, {1}), (30, {0}), (40, {1, 5})],
+     good=[{}, {}, {}, {}, {0}], bad=[{}, {}, {0}, {0}, {0}])
+show("left twice, good both times", INPUT_5, [(10, {0}), (20, {1, 5}), (30, {0}), (40, {1, 5})],
+     good=[{}, {}, {0}, {0}, {0}], bad=[{}] * 5)
+# "Counting a step that is still active as passed"
+show("entered and never left", INPUT_5, [(10, {0, 5}), (20, {5}), (30, {})], good=[{}] * 4, bad=[{}] * 4)
+# "Reading a case from the cycle after the step was left", or from the one before
+show("not the next cycle's signal", INPUT_5, [(10, {0}), (20, {1}), (30, {5})], good=[{}] * 4, bad=[{}, {}, {0}, {0}])
+show("not the signal of the cycle before", INPUT_5, [(10, {0}), (15, {5}), (20, {1})], good=[{}] * 4, bad=[{}, {}, {}, {0}])
+show("four cases on two steps", swing(0, case(1, 5, 1), case(1, 5, 0), case(1, 6, 0), case(0, 0, 1)),
+     [(10, {0}), (20, {1, 5})], good=[{}, {3}, {0, 2, 3}], bad=[{}, {}, {1}])
+show("cases on both sources of a join and on its target",
+     steps(3, [0, 1]) + transition([0, 1], [2]) + case(0, 9, 1) + case(1, 9, 0) + case(2, 9, 1) + END,
+     [(1, {9})], good=[{}, {0}], bad=[{}, {1}])
+# the activity is the previous call's: action 0 becomes active as step 0 is left, and inactive as step 1 is
+show("cases on an activity", swing(1, block(1, 0, N), case(1, 32, 1), case(0, 32, 0)), [(10, {0}), (20, {1})],
+     activity=[{}, {0}, {}], good=[{}, {1}, {0, 1}], bad=[{}, {}, {}])
+
+# 4 and 5: each timed qualifier on both sides of its duration; the times of counter or timer at which it is active
+SOON, LATE = {0: [], 1: [0], 100: [0, 1, 2, 99]}, {0: [0, 1, 2, 99, 100, 101], 1: [1, 2, 99, 100, 101], 100: [100, 101]}
+for q, active_at in {L: SOON, SL: SOON, D: LATE, SD: LATE, DS: LATE}.items():
+    for duration in (0, 1, 100):
+        chart = steps(1) + actions(1) + block(0, 0, q, duration) + END
+        at = {ms: {0} if ms in active_at[duration] else {} for ms in (0, 1, 2, 99, 100, 101)}
+        show(f"qualifier {q}, {duration} ms", chart, [(ms, {}) for ms in (1, 2, 99, 100, 101)], activity=list(at.values()),
+             stored=list(at.values()) if q == DS else [{}] * 6, latched=[{0} if q in (SD, SL) else {}] * 6)
+        for ms in at:
+            show(f"qualifier {q}, {duration} ms, {ms} at once", chart, [(ms, {})], activity=[at[0], at[ms]])
+# 3 and 4: all five on a step entered later (0 L, 1 D, 2 DS, 3 SD, 4 SL, 100 ms): the entering cycle's own time counts for none
+FIVE = swing(5, *[block(1, k, q, 100) for k, q in enumerate((L, D, DS, SD, SL))])
+show("timed qualifiers, the step entered, left and entered again", FIVE,
+     [(100, {0}), (199, {}), (200, {}), (250, {1}), (300, {0}), (399, {}), (400, {})],
+     activity=[{}, {0, 4}, {0, 4}, {1, 2, 3}, {2, 3}, {0, 2, 3}, {0, 2, 3}, {1, 2, 3}],
+     counters=[{}, {}, {1: 99}, {1: 100}, {}, {}, {1: 99}, {1: 100}],
+     timers=[{}] + [{3: ms, 4: ms} if ms else {} for ms in (0, 99, 100, 150, 200, 299, 300)])
+# 4: "from the steps now active": L ends, and DS comes too late, in the cycle that leaves the step; the latches stay
+show("timed qualifiers, the step left before the time", FIVE, [(10, {0}), (50, {1}), (109, {}), (110, {}), (150, {})],
+     activity=[{}, {0, 4}, {4}, {4}, {3}, {3}], stored=[{}] * 6, latched=[{}] + [{3, 4}] * 5)
+show("timed qualifiers, the step left at the time", FIVE, [(10, {0}), (109, {}), (110, {1}), (111, {})],
+     activity=[{}, {0, 4}, {0, 4}, {3}, {3}], stored=[{}] * 5)
+# 1: "one is never handed over for the other": SD by the timer (100 at 100 ms), D by the counter (100 at 160 ms)
+show("counter and timer apart", swing(2, block(0, 0, SD, 100), block(1, 1, D, 100)),
+     [(60, {0}), (99, {}), (100, {}), (159, {}), (160, {})], activity=[{}, {}, {}, {0}, {0}, {0, 1}],
+     counters=[{}, {}, {1: 39}, {1: 40}, {1: 99}, {1: 100}], timers=[{}, {0: 60}, {0: 99}, {0: 100}, {0: 159}, {0: 160}])
+show("two timed actions, two durations, two timers", swing(2, block(0, 1, SL, 50), block(1, 0, SL, 20)),
+     [(15, {0}), (34, {}), (35, {}), (49, {}), (50, {})], activity=[{1}, {0, 1}, {0, 1}, {1}, {1}, {}],
+     timers=[{}, {1: 15}, {0: 19, 1: 34}, {0: 20, 1: 35}, {0: 34, 1: 49}, {0: 35, 1: 50}])
+# "Restarting SL when its step is entered again: only a reset clears the latch"
+AGAIN = [(10, {0}), (50, {1}), (90, {0}), (109, {}), (110, {}), (200, {1}), (300, {0})]
+RUNS_ON = [{}, {}, {0: 40}, {0: 80}, {0: 99}, {0: 100}, {0: 190}, {0: 290}]
+show("SL entered again", swing(1, block(1, 0, SL, 100)), AGAIN, activity=[{}] + [{0}] * 4 + [{}] * 3, timers=RUNS_ON)
+show("SD entered again", swing(1, block(1, 0, SD, 100)), AGAIN, activity=[{}] * 5 + [{0}] * 3, timers=RUNS_ON)
+# 4: "With reset, stored and latch are cleared and the timer is 0"; "a fresh latch has timer 0"
+RESET = [(10, {0}), (60, {1}), (65, {}), (70, {0}), (169, {}), (170, {})]
+FRESH = dict(latched=[{}, {0}, {}, {}, {0}, {0}, {0}], timers=[{}, {}, {}, {}, {}, {0: 99}, {0: 100}])
+show("SL latched afresh", swing(1, block(1, 0, SL, 100), block(0, 0, R)), RESET,
+     activity=[{}, {0}, {}, {}, {0}, {0}, {}], **FRESH)
+show("SD latched afresh", swing(1, block(1, 0, SD, 100), block(0, 0, R)), RESET,
+     activity=[{}, {}, {}, {}, {}, {}, {0}], **FRESH)
+# the latching step 0 stays active while R comes (step 2) and goes (step 1)
+show("reset while latched",
+     steps(3, [0, 1]) + actions(1) + transition([1], [2], on=[0]) + transition([2], [1], on=[1])
+     + block(0, 0, SL, 100) + block(2, 0, R) + END,
+     [(50, {}), (60, {0}), (80, {}), (90, {1}), (189, {}), (190, {})], activity=[{0}, {0}, {}, {}, {0}, {0}, {}],
+     latched=[{0}, {0}, {}, {}, {0}, {0}, {0}], timers=[{}, {0: 50}, {}, {}, {}, {0: 99}, {0: 100}])
+
+# 5: "an active step has an N block"; 4: S and DS set stored, which stays until R
+GO = [(1, {0}), (2, {}), (3, {1}), (4, {})]
+show("N", swing(1, block(1, 0, N)), GO, activity=[{}, {0}, {0}, {}, {}], stored=[{}] * 5)
+show("S stays when its step is left", swing(1, block(1, 0, S)), GO,
+     activity=[{}] + [{0}] * 4, stored=[{}] + [{0}] * 4, outputs=[{}] + [{0: 10}] * 4)
+show("S, then R, then neither", path(1, block(0, 0, S), block(1, 0, R)), [(1, {}), (2, {0}), (3, {1})],
+     activity=[{0}, {0}, {}, {}], stored=[{0}, {0}, {}, {}])
+show("R alone", swing(1, block(0, 0, R)), [(1, {})], activity=[{}, {}], stored=[{}, {}], latched=[{}, {}])
+show("R is over as its step is left", swing(1, block(0, 0, R), block(1, 0, S)), [(1, {0}), (2, {1})],
+     activity=[{}, {0}, {}], stored=[{}, {0}, {}])
+show("DS stays when its step is left", swing(1, block(1, 0, DS, 100)),
+     [(10, {0}), (109, {}), (110, {}), (120, {1}), (130, {0})],
+     activity=[{}, {}, {}, {0}, {0}, {0}], stored=[{}, {}, {}, {0}, {0}, {0}])
+show("DS, then R", path(1, block(1, 0, DS, 5), block(2, 0, R)), [(10, {0}), (15, {}), (20, {1})],
+     activity=[{}, {}, {0}, {}], stored=[{}, {}, {0}, {}])
+# 5: P1 "and the step was entered", P0 "and the step was left", "P and either"; start: "active and entered, none left"
+PULSES = swing(6, block(0, 0, P), block(0, 1, P1), block(0, 2, P0), block(1, 3, P), block(1, 4, P1), block(1, 5, P0))
+show("pulses", PULSES, [(10, {}), (20, {0}), (30, {}), (30, {}), (40, {1}), (50, {})],
+     activity=[{0, 1}, {}, {0, 2, 3, 4}, {}, {}, {0, 1, 3, 5}, {}])
+show("pulses around a refused cycle", PULSES, [(60_001, {0}), (5, {})], code=[0, 11, 0], activity=[{0, 1}, {0, 1}, {}])
+# 5: "A reset action is inactive", whatever drives it; "Letting S win over R in one cycle"
+# Action q has qualifier q on step 0; step 1 resets them all, at start beside step 0 and at 20 ms as step 0 is left.
+AGAINST_R = [block(0, q, q, 100 if q in (L, SL) else 0) for q in range(11) if q != R] + [block(1, q, R) for q in range(11)]
+show("each qualifier against R",
+     steps(3, [0, 1]) + actions(11) + transition([1], [2], on=[0]) + transition([0], [1], on=[1]) + b"".join(AGAINST_R) + END,
+     [(10, {0}), (20, {1})], taken=[{}, {0}, {1}], activity=[{}, {N, S, L, D, SD, DS, SL}, {}],
+     stored=[{}, {S, DS}, {}], latched=[{}, {SD, SL}, {}], timers=[{}, {}, {}])
+show("S and R for one action in one cycle",
+     steps(4, [0, 2]) + actions(1) + THERE + transition([2], [3], on=[1]) + block(1, 0, S) + block(2, 0, R) + END,
+     [(1, {0}), (2, {1})], activity=[{}, {}, {0}], stored=[{}, {}, {0}])
+show("S and R on one step, R first", swing(2, block(1, 0, R), block(1, 0, S), block(1, 1, S)), [(1, {0})],
+     activity=[{}, {1}], stored=[{}, {1}])
+# 4 and 5: "some active step": an action driven by two blocks
+show("N on two steps", swing(1, block(0, 0, N), block(1, 0, N)), [(1, {0}), (2, {1})], activity=[{0}, {0}, {0}])
+show("L and N", swing(1, block(0, 0, L, 9), block(1, 0, N)), [(9, {}), (20, {0}), (30, {1})], activity=[{0}, {}, {0}, {0}])
+show("SL and S: R clears both", path(1, block(0, 0, SL, 10), block(1, 0, S), block(2, 0, R)), [(10, {}), (20, {0}), (30, {1})],
+     activity=[{0}, {}, {0}, {}], stored=[{}, {}, {0}, {}], latched=[{0}, {0}, {0}, {}], timers=[{}, {0: 10}, {0: 20}, {}])
+show("an action without blocks", swing(1), [(1, {0})], activity=[{}, {}])
+
+# 6: "Each output gets the value of its first active action in the table, else 0"; the blocks stand in the other order
+SHARED = steps(3) + action(3, 111) + action(3, -222) + THERE + ON
+show("two actions on one output", SHARED + block(0, 1, N) + block(0, 0, N) + block(1, 1, N) + END, [(1, {0}), (2, {1})],
+     activity=[{0, 1}, {1}, {}], outputs=[{3: 111}, {3: -222}, {}])
+show("an action that loses its output stays stored", SHARED + block(0, 1, S) + block(1, 0, N) + END, [(1, {0}), (2, {1})],
+     stored=[{1}, {1}, {1}], activity=[{1}, {0, 1}, {1}], outputs=[{3: -222}, {3: 111}, {3: -222}])
+show("R resets the action, not the output", SHARED + block(0, 0, S) + block(1, 0, R) + block(1, 1, N) + END, [(1, {0})],
+     activity=[{0}, {1}], outputs=[{3: 111}, {3: -222}])
+show("the first active action has value 0", steps(1) + action(0, 0) + action(0, 5) + block(0, 0, P1) + block(0, 1, N) + END,
+     [(1, {})], activity=[{0, 1}, {1}], outputs=[{}, {0: 5}])
+EXTREME = {31: -(2**31), 0: 2**31 - 1, 16: -1, 15: 1}
+show("extreme values", steps(2) + b"".join(action(k, v) for k, v in EXTREME.items()) + THERE + BACK
+     + b"".join(block(1, k, N) for k in range(4)) + END, [(1, {0}), (2, {1})], outputs=[{}, EXTREME, {}])
+
+# "A chart has 1 to 64 steps, 0 to 32 actions, 0 to 64 transitions, 0 to 256 blocks and 0 to 64 cases": full charts.
+# A ring of 64 steps on inputs 0..31 twice over, from step 63. Block 255 alone drives action 31. Step k < 63 drives k, k + 1,
+# k + 2 and k + 3 modulo 31, because 63 is 1 modulo 31; so k - 32 is inactive when step k is left, and cases 32..62 are bad.
+show("a full chart, each step in turn",
+     steps(64, [63]) + actions(32) + b"".join(transition([k], [(k + 1) % 64], on=[k % 32]) for k in range(64))
+     + b"".join(block(k % 63, k % 31, N) for k in range(255)) + block(63, 31, N)
+     + b"".join(case(k, k, 1) for k in range(64)) + END,
+     [(10 * k, {(k - 2) % 32}) for k in range(1, 66)], {
+         0: dict(active={63}, activity={31}, outputs={31: 41}),
+         **{k + 2: dict(taken={k}, active={k + 1}) for k in range(62)},
+         1: dict(taken={63}, active={0}, activity={0, 1, 2, 3, 4}, good={63}, bad={}),
+         64: dict(taken={62}, active={63}, activity={31}, good={*range(32), 63}, bad=range(32, 63), outputs={31: 41}),
+         65: dict(taken={63}, active={0}, activity={0, 1, 2, 3, 4}, good={*range(32), 63}, bad=range(32, 63))})
+# Even steps, then odd ones, then even ones. Step k has N, S, P1 and P0 blocks for action k // 2: all 32 are always active.
+EVEN, ODD, ALL, WIDE = range(0, 64, 2), range(1, 64, 2), range(32), {31 - k: k - 2**31 for k in range(32)}
+show("a full chart, 32 steps at once",
+     steps(64, EVEN) + b"".join(action(31 - k, k - 2**31) for k in range(32))
+     + b"".join(transition([k], [(k + 1) % 64], wait=10) for k in range(64))
+     + b"".join(block(k // 4, k // 8, (N, S, P1, P0)[k % 4]) for k in range(256))
+     + b"".join(case(k, 32 + k // 2, 1) for k in range(64)) + END,
+     [(10, {}), (19, {}), (20, {})], taken=[{}, EVEN, {}, ODD], active=[EVEN, ODD, ODD, EVEN],
+     activity=[ALL] * 4, stored=[ALL] * 4, good=[{}, EVEN, EVEN, range(64)], bad=[{}] * 4, outputs=[WIDE] * 4,
+     counters=[{}, {}, {k: 9 for k in ODD}, {}])
+show("64 initial steps", net(64, range(64)), [(3, {})], active=[range(64)] * 2, counters=[{}, {k: 3 for k in range(64)}])
+RIVALS = steps(2) + THERE * 63 + transition([0], [1], on=[1]) + END
+show("the last of 64 rivals", RIVALS, [(1, {1})], taken=[{}, {63}])
+show("the first of 64 rivals", RIVALS, [(1, {0, 1})], taken=[{}, {0}])
+show("R is the last of 256 blocks", steps(1) + actions(32) + block(0, 31, S) * 255 + block(0, 31, R) + END, [(1, {})],
+     activity=[{}, {}], stored=[{}, {}])
+for q, before, after in ((L, {31}, {}), (D, {}, {31}), (DS, {}, {31}), (SD, {}, {31}), (SL, {31}, {})):
+    show(f"qualifier {q} is the last of 256 blocks",
+         steps(64, [63]) + actions(32) + block(0, 0, N) * 255 + block(63, 31, q, 100) + END, [(99, {}), (100, {})],
+         activity=[before, before, after], counters=[{}, {63: 99}, {63: 100}])
+
+
+def answers_of(name, data, clock, calls, expect):
+    chart = parse(data)
+    check_valid(chart)
+    answers = [start(chart, clock)]
+    for clock, inputs in calls:
+        answers.append(cycle(chart, answers[-1].run, answers[-1].outputs, clock, inputs))
+    compare(name, answers, expect)
+    return answers
+
+
+def request(data, clock, calls):
+    head = struct.pack("<H", len(data)) + data + struct.pack("<IH", clock, len(calls))
+    return head + b"".join(struct.pack("<II", clock, members(inputs)) for clock, inputs in calls)
+
+
+if __name__ == "__main__":
+    lines = [line(answer) for shown in CASES for answer in answers_of(*shown)]
+    files = {
+        "crates/run_cycles/stdin": b"".join(request(data, clock, calls) for _, data, clock, calls, _ in CASES),
+        "crates/run_cycles/stdout": "".join(text + "\n" for text in lines).encode(),
+    }
+    # the two forms by hand: chart A's input, and its calls at 1010 and 1509
+    assert files["crates/run_cycles/stdin"].startswith(
+        b"\x98\0" + CHART_A + b"\xe8\3\0\0" + b"\2\0" + b"\xf2\3\0\0\1\0\0\0" + b"\xe6\5\0\0\2\0\0\0")
+    assert lines[1] == "0 1 1010 2 3 2 0 0 0 c t o 120" + " 0" * 31
+    assert lines[5] == "0 0 1509 2 3 2 0 0 0 c 1:499 t o 120" + " 0" * 31
+    for name, content in files.items():
+        path = ROOT / name
+        if "--check" not in sys.argv[1:]:
+            path.parent.mkdir(parents=True, exist_ok=True)
+            path.write_bytes(content)
+        elif not path.is_file() or path.read_bytes() != content:
+            sys.exit(f"{name} is not what tests/run_cycles.py says")
+    print(f"run_cycles: {len(CASES)} cases, {len(lines)} calls")
