@@ -11,18 +11,39 @@ use Rattle.sets.proofs.Members.{named-start, named-turn}
 use Rattle.sets.proofs.Below.{has-union, has-minus}
 use Rattle.cycle.specs.Acting.{askingAt, asked, resets, sets, latches, wants, ripens, requestOf, storedAfter, latchedAfter, acted}
 use Rattle.cycle.specs.declared.acting.Steps.{Steps}
+use Rattle.cycle.specs.declared.acting.Request.{Request}
 use Rattle.cycle.specs.declared.acting.Asked.{Asked}
 
 module _ (step action qualifier duration counts times : List ℕ) (steps : Steps) where
+  abbrev asks : ℕ → Request
+  asks b = requestOf step action qualifier duration counts times steps b
+
+  abbrev of : ℕ → ℕ
+  of b = getD action b 0
+
   pub none-asked : record { reset = 0; set = 0; latch = 0; want = 0; ripe = 0 } ≡ asked 0 step action qualifier duration counts times steps
   unfolding asked
-  none-asked = rw (← named-start (λ b. resets (requestOf step action qualifier duration counts times steps b)) (λ b. getD action b 0), ← named-start (λ b. sets (requestOf step action qualifier duration counts times steps b)) (λ b. getD action b 0), ← named-start (λ b. latches (requestOf step action qualifier duration counts times steps b)) (λ b. getD action b 0), ← named-start (λ b. wants (requestOf step action qualifier duration counts times steps b)) (λ b. getD action b 0), ← named-start (λ b. ripens (requestOf step action qualifier duration counts times steps b)) (λ b. getD action b 0))
+  none-asked =
+      rw (
+        ← named-start (λ b. resets (asks b)) of,
+        ← named-start (λ b. sets (asks b)) of,
+        ← named-start (λ b. latches (asks b)) of,
+        ← named-start (λ b. wants (asks b)) of,
+        ← named-start (λ b. ripens (asks b)) of,
+      )
 
   turn : (b : ℕ)
       → askingAt (asked b step action qualifier duration counts times steps) (getD step b 0) (getD action b 0) (getD qualifier b 0) (getD duration b 0) (getD counts (getD step b 0) 0) (getD times (getD action b 0) 0) steps
       ≡ asked (suc b) step action qualifier duration counts times steps
   unfolding asked
-  turn b = rw (named-turn (λ b. resets (requestOf step action qualifier duration counts times steps b)) (λ b. getD action b 0) b, named-turn (λ b. sets (requestOf step action qualifier duration counts times steps b)) (λ b. getD action b 0) b, named-turn (λ b. latches (requestOf step action qualifier duration counts times steps b)) (λ b. getD action b 0) b, named-turn (λ b. wants (requestOf step action qualifier duration counts times steps b)) (λ b. getD action b 0) b, named-turn (λ b. ripens (requestOf step action qualifier duration counts times steps b)) (λ b. getD action b 0) b)
+  turn b =
+      rw (
+        named-turn (λ b. resets (asks b)) of b,
+        named-turn (λ b. sets (asks b)) of b,
+        named-turn (λ b. latches (asks b)) of b,
+        named-turn (λ b. wants (asks b)) of b,
+        named-turn (λ b. ripens (asks b)) of b,
+      )
 
   pub one-asked : (b : ℕ) (x y : Asked) (s a : ℕ) → x ≡ asked b step action qualifier duration counts times steps → s ≡ getD step b 0 → a ≡ getD action b 0
       → y ≡ askingAt x s a (getD qualifier b 0) (getD duration b 0) (getD counts s 0) (getD times a 0) steps

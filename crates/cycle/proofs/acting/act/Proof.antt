@@ -31,7 +31,16 @@ without-requires-3 c κs = search needs
 returns : tie.Need-returns
 unfolding acted
 returns c =
-    rw (c .without3 .ensures, c .before .joined4 .ensures, c .before .before .joined3 .ensures, c .before .before .before .common .ensures, c .before .before .before .before .without2 .ensures, c .before .before .before .before .before .joined2 .ensures, c .before .before .before .before .before .before .without .ensures, c .before .before .before .before .before .before .before .joined .ensures)
+    rw (
+      c .without3 .ensures,
+      c .before .joined4 .ensures,
+      c .before .before .joined3 .ensures,
+      c .before .before .before .common .ensures,
+      c .before .before .before .before .without2 .ensures,
+      c .before .before .before .before .before .joined2 .ensures,
+      c .before .before .before .before .before .before .without .ensures,
+      c .before .before .before .before .before .before .before .joined .ensures,
+    )
 
 pub act-spec : {M : Type 1} → statement M
 act-spec =

@@ -43,13 +43,17 @@ mul-ask-2 : tie.Need-mul-ask-2 Inv-loop μ-loop
 mul-ask-2 c = omega arith
 
 element-copy-out-ask-3 : tie.Need-element-copy-out-ask-3 Inv-loop μ-loop
-element-copy-out-ask-3 c = omega (arith, c .before .before .before .before .index-of .ensures .0, c .before .before .before .before .before .before .before .before .pre .1 (c .before .before .before .before .before .before .before .loop .i) (c .before .before .before .before .before .before .loop-test .taken) .0)
+element-copy-out-ask-3 c =
+    let turn = c .before .before .before .before .before .before in
+    omega (arith, c .before .before .before .before .index-of .ensures .0, turn .before .before .pre .1 (turn .before .loop .i) (turn .loop-test .taken) .0)
 
 mul-ask-3 : tie.Need-mul-ask-3 Inv-loop μ-loop
 mul-ask-3 c = omega arith
 
 element-copy-out-ask-4 : tie.Need-element-copy-out-ask-4 Inv-loop μ-loop
-element-copy-out-ask-4 c = omega (arith, c .before .before .before .index-of2 .ensures .0, c .before .before .before .before .before .before .before .before .before .pre .1 (c .before .before .before .before .before .before .before .before .loop .i) (c .before .before .before .before .before .before .before .loop-test .taken) .1)
+element-copy-out-ask-4 c =
+    let turn = c .before .before .before .before .before .before .before in
+    omega (arith, c .before .before .before .index-of2 .ensures .0, turn .before .before .pre .1 (turn .before .loop .i) (turn .loop-test .taken) .1)
 
 ask-requires : tie.Need-ask-requires Inv-loop μ-loop
 ask-requires c κs = search needs
@@ -62,7 +66,9 @@ loop-less c = omega arith
 
 loop-again : tie.Need-loop-again Inv-loop μ-loop
 loop-again c =
-    (one-asked _ _ _ _ _ _ _ _ _ _ _ _ (c .before .before .before .before .before .before .before .before .before .before .loop .inv .0) (c .before .before .before .before .before .before .before .index-of .ensures .0) (c .before .before .before .before .before .index-of2 .ensures .0) (c .ask .ensures), omega arith)
+    let action = c .before .before .before .before .before in
+    let step = action .before .before in
+    (one-asked _ _ _ _ _ _ _ _ _ _ _ _ (step .before .before .before .loop .inv .0) (step .index-of .ensures .0) (action .index-of2 .ensures .0) (c .ask .ensures), omega arith)
 
 returns : tie.Need-returns Inv-loop μ-loop
 returns c = rw (le-antisymm (c .loop-test .left) (c .before .loop .inv .1)) (c .before .loop .inv .0)

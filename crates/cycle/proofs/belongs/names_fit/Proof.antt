@@ -23,7 +23,14 @@ names-below-requires-6 c κs = search needs
 
 returns : tie.Need-returns
 returns c =
-    rw (c .names-below6 .ensures, c .before .names-below5 .ensures, c .before .before .names-below4 .ensures, c .before .before .before .names-below3 .ensures, c .before .before .before .before .names-below2 .ensures, c .before .before .before .before .before .names-below .ensures)
+    rw (
+      c .names-below6 .ensures,
+      c .before .names-below5 .ensures,
+      c .before .before .names-below4 .ensures,
+      c .before .before .before .names-below3 .ensures,
+      c .before .before .before .before .names-below2 .ensures,
+      c .before .before .before .before .before .names-below .ensures,
+    )
 
 pub names-fit-spec : {M : Type 1} → statement M
 names-fit-spec =

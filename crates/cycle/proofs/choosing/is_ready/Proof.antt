@@ -23,7 +23,14 @@ is-apart-requires-4 c κs = search needs
 
 returns : tie.Need-returns
 returns c =
-    rw (c .is-apart4 .ensures, c .before .is-apart3 .ensures, c .before .before .is-apart2 .ensures, c .before .before .before .is-within2 .ensures, c .before .before .before .before .is-apart .ensures, c .before .before .before .before .before .is-within .ensures)
+    rw (
+      c .is-apart4 .ensures,
+      c .before .is-apart3 .ensures,
+      c .before .before .is-apart2 .ensures,
+      c .before .before .before .is-within2 .ensures,
+      c .before .before .before .before .is-apart .ensures,
+      c .before .before .before .before .before .is-within .ensures,
+    )
 
 pub is-ready-spec : {M : Type 1} → statement M
 is-ready-spec =

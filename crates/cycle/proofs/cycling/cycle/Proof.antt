@@ -8,7 +8,7 @@ use lib.ListN.{length}
 use denote.Ref.{now}
 use borrow.Author.Tests.{not-true, not-false}
 use Rattle.reader.specs.Held.{chartCode}
-use Rattle.reader.proofs.held.Sound.{sound}
+use Rattle.reader.proofs.held.Sound.{Sound, sound}
 use Rattle.cycle.specs.Time.{elapsed}
 use Rattle.cycle.specs.Belongs.{belongs}
 use Rattle.cycle.specs.Cycling.{refused, cycleCode, cycled}
@@ -17,10 +17,23 @@ use borrow.Author.Needs.{needs}
 use Rattle.cycle.proofs.cycling.cycle.Statement.{statement}
 use Rattle.cycle.proofs.cycling.cycle.Tie as tie
 
-chart-zero : (c : tie.Else2) → chartCode (c .before .before .before .before .before .before .before .before .before .before .before .before .before .before .before .before .before .before .args .t1) ≡ 0
+-- what passed, seen from a later place
+abbrev call : tie.Else2 → tie.Start
+call c = c .before .before .before .before .before .before .before .before .before .before .before .before .before .before .before .before .before .before
+
+abbrev lent : tie.Else2 → tie.Else1
+lent c = c .before .before .before .before .before .before .before .before .before .before .before .before .before .before .before .before .before
+
+chart-zero : (c : tie.Else2) → chartCode (call c .args .t1) ≡ 0
 chart-zero c = sym (c .before .held-code .ensures) ∙ c .if2 .left
 
-run-own : (c : tie.Else3) → belongs (c .before .before .before .before .before .before .before .before .before .before .before .before .before .before .before .before .before .before .before .before .args .t1) (c .before .before .before .before .before .before .before .before .before .before .before .before .before .before .before .before .before .before .before .before .args .run) ≡ true
+chart-sound : (c : tie.Else2) → Sound (call c .args .t1)
+chart-sound c = sound (call c .args .t1) (chart-zero c)
+
+abbrev tested : tie.Else3 → tie.Else2
+tested c = c .before .before
+
+run-own : (c : tie.Else3) → belongs (call (tested c) .args .t1) (call (tested c) .args .run) ≡ true
 run-own c = sym (c .before .belongs .ensures) ∙ not-false _ (c .if3 .left)
 
 a-word : (c : tie.Start) → c .args .run .activity < 2 ^ 64
@@ -45,11 +58,12 @@ refused-requires-2 c κs = search needs
 
 returns-2 : tie.Need-returns-2
 returns-2 c =
-    let a = c .before .before .before .before .before .before .before .before .before .before .before .before .before .before .before .before .before .before .before .args in
+    let few-not = c .before .before .before .before .before .before .before .before .before .before .before .before .before .before .before .before .before .before in
+    let a = few-not .before .args in
     let z = c .before .if2 .taken in
     let e = c .before .before .held-code .ensures in (
       refused-by _ _ (cycled (a .t1) (a .run) (a .clock) (a .inputs)) (c .refused2 .result) (a .run) (a .run)
-          (e ∙ stops _ _ (λ q. z (e ∙ q)) ∙ enough _ _ (c .before .before .before .before .before .before .before .before .before .before .before .before .before .before .before .before .before .before .if1 .left)) z refl (c .refused2 .ensures),
+          (e ∙ stops _ _ (λ q. z (e ∙ q)) ∙ enough _ _ (few-not .if1 .left)) z refl (c .refused2 .ensures),
       untouched (a .t1) (c .refused2 .result) _ (a .run) (now (a .outputs)) (c .refused2 .ensures) z,
     )
 
@@ -61,10 +75,11 @@ refused-requires-3 c κs = search needs
 
 returns-3 : tie.Need-returns-3
 returns-3 c =
-    let a = c .before .before .before .before .before .before .before .before .before .before .before .before .before .before .before .before .before .before .before .before .before .args in
+    let held = c .before .before .before in
+    let a = call held .args in
     let t = sym (c .before .before .belongs .ensures) ∙ not-true _ (c .before .if3 .taken) in (
       refused-by _ 12 (cycled (a .t1) (a .run) (a .clock) (a .inputs)) (c .refused3 .result) (a .run) (a .run)
-          (other-run _ _ t ∙ goes-on _ _ (chart-zero (c .before .before .before)) ∙ enough _ _ (c .before .before .before .before .before .before .before .before .before .before .before .before .before .before .before .before .before .before .before .before .if1 .left)) (λ z. omega arith) refl (c .refused3 .ensures),
+          (other-run _ _ t ∙ goes-on _ _ (chart-zero held) ∙ enough _ _ (lent held .if1 .left)) (λ z. omega arith) refl (c .refused3 .ensures),
       untouched (a .t1) (c .refused3 .result) 12 (a .run) (now (a .outputs)) (c .refused3 .ensures) (λ z. omega arith),
     )
 
@@ -76,10 +91,12 @@ refused-requires-4 c κs = search needs
 
 returns-4 : tie.Need-returns-4
 returns-4 c =
-    let a = c .before .before .before .before .before .before .before .before .before .before .before .before .before .before .before .before .before .before .before .before .before .before .before .args in
+    let own = c .before .before .before in
+    let held = tested own in
+    let a = call held .args in
     let h : 60000 < elapsed (a .run .clock) (a .clock) = rw (c .before .before .elapsed .ensures) at (c .before .if4 .taken) in (
       refused-by _ 11 (cycled (a .t1) (a .run) (a .clock) (a .inputs)) (c .refused4 .result) (a .run) (a .run)
-          (too-late _ h ∙ own-run _ _ (run-own (c .before .before .before)) ∙ goes-on _ _ (chart-zero (c .before .before .before .before .before)) ∙ enough _ _ (c .before .before .before .before .before .before .before .before .before .before .before .before .before .before .before .before .before .before .before .before .before .before .if1 .left)) (λ z. omega arith) refl (c .refused4 .ensures),
+          (too-late _ h ∙ own-run _ _ (run-own own) ∙ goes-on _ _ (chart-zero held) ∙ enough _ _ (lent held .if1 .left)) (λ z. omega arith) refl (c .refused4 .ensures),
       untouched (a .t1) (c .refused4 .result) 11 (a .run) (now (a .outputs)) (c .refused4 .ensures) (λ z. omega arith),
     )
 
@@ -91,20 +108,24 @@ grown-times-requires c κs = search needs
 
 signals-of-requires : tie.Need-signals-of-requires
 signals-of-requires c κs =
-    let a = c .before .before .before .before .before .before .before .before .before .before .before .before .before .before .before .before .before .before .before .before .before .before .before .before .before .before .args in
-    activity-fits (a .t1) (a .run) (sound (a .t1) (chart-zero (c .before .before .before .before .before .before .before .before))) (run-own (c .before .before .before .before .before .before)) (a-word (c .before .before .before .before .before .before .before .before .before .before .before .before .before .before .before .before .before .before .before .before .before .before .before .before .before .before))
+    let own = c .before .before .before .before .before .before in
+    let held = tested own in
+    let begin = call held in
+    activity-fits (begin .args .t1) (begin .args .run) (chart-sound held) (run-own own) (a-word begin)
 
 choose-requires : tie.Need-choose-requires
-choose-requires c κs = sound (c .before .before .before .before .before .before .before .before .before .before .before .before .before .before .before .before .before .before .before .before .before .before .before .before .before .before .before .before .before .before .before .before .before .before .args .t1) (chart-zero (c .before .before .before .before .before .before .before .before .before .before .before .before .before .before .before .before)) .limits .transitions
+choose-requires c κs = chart-sound (c .before .before .before .before .before .before .before .before .before .before .before .before .before .before .before .before) .limits .transitions
 
 steps-of-requires : tie.Need-steps-of-requires
 steps-of-requires c κs = search needs
 
 marks-of-requires : tie.Need-marks-of-requires
-marks-of-requires c κs = sound (c .before .before .before .before .before .before .before .before .before .before .before .before .before .before .before .before .before .before .before .before .before .before .before .before .before .before .before .before .before .before .before .before .before .before .before .before .before .before .before .before .args .t1) (chart-zero (c .before .before .before .before .before .before .before .before .before .before .before .before .before .before .before .before .before .before .before .before .before .before)) .limits .cases
+marks-of-requires c κs = chart-sound (c .before .before .before .before .before .before .before .before .before .before .before .before .before .before .before .before .before .before .before .before .before .before) .limits .cases
 
 settle-requires : tie.Need-settle-requires
-settle-requires c κs = settles (c .before .before .before .before .before .before .before .before .before .before .before .before .before .before .before .before .before .before .before .before .before .before .before .before .before .before .before .before .before .before .before .before .before .before .before .before .before .before .before .before .before .before .before .before .before .before .before .before .before .before .before .args .t1) _ (sound (c .before .before .before .before .before .before .before .before .before .before .before .before .before .before .before .before .before .before .before .before .before .before .before .before .before .before .before .before .before .before .before .before .before .before .before .before .before .before .before .before .before .before .before .before .before .before .before .before .before .before .before .args .t1) (chart-zero (c .before .before .before .before .before .before .before .before .before .before .before .before .before .before .before .before .before .before .before .before .before .before .before .before .before .before .before .before .before .before .before .before .before))) (c .before .before .before .before .before .before .before .before .before .before .before .before .before .before .before .before .before .before .before .before .before .before .before .before .before .before .before .before .before .before .before .before .before .before .before .before .before .before .before .before .before .before .before .before .before .before .before .before .before .before .if1 .left)
+settle-requires c κs =
+    let held = c .before .before .before .before .before .before .before .before .before .before .before .before .before .before .before .before .before .before .before .before .before .before .before .before .before .before .before .before .before .before .before .before .before in
+    settles (call held .args .t1) _ (chart-sound held) (lent held .if1 .left)
 
 settled-counters-requires : tie.Need-settled-counters-requires
 settled-counters-requires c κs = search needs
@@ -123,14 +144,25 @@ same-length c = search needs
 
 returns-5 : tie.Need-returns-5
 returns-5 c =
-    let a = c .before .before .before .before .before .before .before .before .before .before .before .before .before .before .before .before .before .before .before .before .before .before .before .before .before .before .before .before .before .before .before .before .before .before .before .before .before .before .before .before .before .before .before .before .before .before .before .before .before .before .before .before .before .before .before .before .before .before .before .args in
-    let s = c .before .before .before .before .before .before .before .settle .ensures in
-    let h : elapsed (a .run .clock) (a .clock) ≤ 60000 = rw (c .before .before .before .before .before .before .before .before .before .before .before .before .before .before .before .before .before .before .before .before .before .before .before .before .before .before .before .before .before .before .before .before .before .before .before .before .before .before .elapsed .ensures) at (c .before .before .before .before .before .before .before .before .before .before .before .before .before .before .before .before .before .before .before .before .before .before .before .before .before .before .before .before .before .before .before .before .before .before .before .before .before .if4 .left) in (
+    let acting = c .before .before .before .before .before .before .before in
+    let marking = acting .before .before .before .before .before .before .before .before .before .before .before in
+    let moving = marking .before .before .before .before .before in
+    let choosing = moving .before in
+    let sensing = choosing .before .before .before .before .before .before .before .before in
+    let times = sensing .before in
+    let counts = times .before in
+    let timely = counts .before .before .before in
+    let own = timely .before .before in
+    let held = tested own in
+    let a = call held .args in
+    let s = acting .settle .ensures in
+    let e = timely .before .elapsed .ensures in
+    let h : elapsed (a .run .clock) (a .clock) ≤ 60000 = rw e at (timely .if4 .left) in (
       accepted-by _ (cycled (a .t1) (a .run) (a .clock) (a .inputs)) (refused (cycleCode (a .t1) (a .run) (a .clock) (length (now (a .outputs)))) (a .run)) _
-          (in-time _ h ∙ own-run _ _ (run-own (c .before .before .before .before .before .before .before .before .before .before .before .before .before .before .before .before .before .before .before .before .before .before .before .before .before .before .before .before .before .before .before .before .before .before .before .before .before .before .before)) ∙ goes-on _ _ (chart-zero (c .before .before .before .before .before .before .before .before .before .before .before .before .before .before .before .before .before .before .before .before .before .before .before .before .before .before .before .before .before .before .before .before .before .before .before .before .before .before .before .before .before)) ∙ enough _ _ (c .before .before .before .before .before .before .before .before .before .before .before .before .before .before .before .before .before .before .before .before .before .before .before .before .before .before .before .before .before .before .before .before .before .before .before .before .before .before .before .before .before .before .before .before .before .before .before .before .before .before .before .before .before .before .before .before .before .before .if1 .left))
-          (cycled-as (a .t1) (a .run) (a .clock) (a .inputs) _ _ _ _ (c .before .before .before .before .before .before .before .before .before .before .before .before .before .before .before .before .before .before .before .before .before .before .before .before .choose .result) (c .before .before .before .before .before .before .before .before .before .before .before .before .before .before .before .before .before .before .before .before .before .before .before .steps-of .result) (c .before .before .before .before .before .before .before .before .before .before .before .before .before .before .before .before .before .before .marks-of .result) (c .before .before .before .before .before .before .before .settle .result) _ _ _ _
-          (c .before .before .before .before .before .before .before .before .before .before .before .before .before .before .before .before .before .before .before .before .before .before .before .before .before .before .before .before .before .before .before .before .before .before .before .before .before .before .elapsed .ensures) (c .before .before .before .before .before .before .before .before .before .before .before .before .before .before .before .before .before .before .before .before .before .before .before .before .before .before .before .before .before .before .before .before .before .before .grown-counts .ensures) (c .before .before .before .before .before .before .before .before .before .before .before .before .before .before .before .before .before .before .before .before .before .before .before .before .before .before .before .before .before .before .before .before .before .grown-times .ensures) (c .before .before .before .before .before .before .before .before .before .before .before .before .before .before .before .before .before .before .before .before .before .before .before .before .before .before .before .before .before .before .before .before .signals-of .ensures) (c .before .before .before .before .before .before .before .before .before .before .before .before .before .before .before .before .before .before .before .before .before .before .before .before .choose .ensures) (c .before .before .before .before .before .before .before .before .before .before .before .before .before .before .before .before .before .before .before .before .before .before .before .steps-of .ensures)
-          (c .before .before .before .before .before .before .before .before .before .before .before .before .before .before .before .before .before .before .marks-of .ensures) (s .0) (c .before .before .before .before .settled-counters .ensures) (c .before .before .settled-timers .ensures) (c .before .joined .ensures) (c .joined2 .ensures)),
+          (in-time _ h ∙ own-run _ _ (run-own own) ∙ goes-on _ _ (chart-zero held) ∙ enough _ _ (lent held .if1 .left))
+          (cycled-as (a .t1) (a .run) (a .clock) (a .inputs) _ _ _ _ (choosing .choose .result) (moving .steps-of .result) (marking .marks-of .result) (acting .settle .result) _ _ _ _
+          e (counts .grown-counts .ensures) (times .grown-times .ensures) (sensing .signals-of .ensures) (choosing .choose .ensures) (moving .steps-of .ensures)
+          (marking .marks-of .ensures) (s .0) (c .before .before .before .before .settled-counters .ensures) (c .before .before .settled-timers .ensures) (c .before .joined .ensures) (c .joined2 .ensures)),
       s .1,
     )
 

@@ -4,7 +4,7 @@ use native.Mathlib.Omega.{arith}
 use lib.ListN.{length}
 use denote.Ref.{now}
 use Rattle.reader.specs.Held.{chartCode}
-use Rattle.reader.proofs.held.Sound.{sound}
+use Rattle.reader.proofs.held.Sound.{Sound, sound}
 use Rattle.cycle.specs.Run.{noRun}
 use Rattle.cycle.specs.Cycling.{refused, startCode, started}
 use Rattle.cycle.proofs.cycling.Laws.{few, enough, refused-by, accepted-by, untouched, started-as, settles}
@@ -12,8 +12,18 @@ use borrow.Author.Needs.{needs}
 use Rattle.cycle.proofs.cycling.start.Statement.{statement}
 use Rattle.cycle.proofs.cycling.start.Tie as tie
 
-chart-zero : (c : tie.Else2) → chartCode (c .before .before .before .before .before .before .before .before .before .before .before .before .before .before .before .before .before .before .args .t1) ≡ 0
+-- what passed, seen from a later place
+abbrev call : tie.Else2 → tie.Start
+call c = c .before .before .before .before .before .before .before .before .before .before .before .before .before .before .before .before .before .before
+
+abbrev lent : tie.Else2 → tie.Else1
+lent c = c .before .before .before .before .before .before .before .before .before .before .before .before .before .before .before .before .before
+
+chart-zero : (c : tie.Else2) → chartCode (call c .args .t1) ≡ 0
 chart-zero c = sym (c .before .held-code .ensures) ∙ c .if2 .left
+
+chart-sound : (c : tie.Else2) → Sound (call c .args .t1)
+chart-sound c = sound (call c .args .t1) (chart-zero c)
 
 no-run-requires : tie.Need-no-run-requires
 no-run-requires c κs = search needs
@@ -40,18 +50,21 @@ refused-requires-2 c κs = search needs
 
 returns-2 : tie.Need-returns-2
 returns-2 c =
-    let a = c .before .before .before .before .before .before .before .before .before .before .before .before .before .before .before .before .before .before .before .before .args in
+    let few-not = c .before .before .before .before .before .before .before .before .before .before .before .before .before .before .before .before .before .before .before in
+    let a = few-not .before .args in
     let z = c .before .before .if2 .taken in
     let e = c .before .before .before .held-code .ensures in (
-      refused-by _ _ (started (a .t1) (a .clock)) (c .refused2 .result) noRun (c .before .no-run2 .result) (e ∙ enough _ _ (c .before .before .before .before .before .before .before .before .before .before .before .before .before .before .before .before .before .before .before .if1 .left)) z (c .before .no-run2 .ensures) (c .refused2 .ensures),
+      refused-by _ _ (started (a .t1) (a .clock)) (c .refused2 .result) noRun (c .before .no-run2 .result) (e ∙ enough _ _ (few-not .if1 .left)) z (c .before .no-run2 .ensures) (c .refused2 .ensures),
       untouched (a .t1) (c .refused2 .result) _ (c .before .no-run2 .result) (now (a .outputs)) (c .refused2 .ensures) z,
     )
 
 initial-set-requires : tie.Need-initial-set-requires
-initial-set-requires c κs = sound (c .before .before .before .before .before .before .before .before .before .before .before .before .before .before .before .before .before .before .before .before .args .t1) (chart-zero (c .before .before)) .limits .steps
+initial-set-requires c κs = chart-sound (c .before .before) .limits .steps
 
 settle-requires : tie.Need-settle-requires
-settle-requires c κs = settles (c .before .before .before .before .before .before .before .before .before .before .before .before .before .before .before .before .before .before .before .before .before .before .before .before .before .before .before .before .before .before .before .args .t1) _ (sound (c .before .before .before .before .before .before .before .before .before .before .before .before .before .before .before .before .before .before .before .before .before .before .before .before .before .before .before .before .before .before .before .args .t1) (chart-zero (c .before .before .before .before .before .before .before .before .before .before .before .before .before))) (c .before .before .before .before .before .before .before .before .before .before .before .before .before .before .before .before .before .before .before .before .before .before .before .before .before .before .before .before .before .before .if1 .left)
+settle-requires c κs =
+    let held = c .before .before .before .before .before .before .before .before .before .before .before .before .before in
+    settles (call held .args .t1) _ (chart-sound held) (lent held .if1 .left)
 
 settled-counters-requires : tie.Need-settled-counters-requires
 settled-counters-requires c κs = search needs
@@ -64,10 +77,14 @@ same-length c = search needs
 
 returns-3 : tie.Need-returns-3
 returns-3 c =
-    let a = c .before .before .before .before .before .before .before .before .before .before .before .before .before .before .before .before .before .before .before .before .before .before .before .before .before .before .before .before .before .before .before .before .before .before .before .before .before .args in
-    let s = c .before .before .before .before .before .settle .ensures in (
-      accepted-by _ (started (a .t1) (a .clock)) (refused (startCode (a .t1) (length (now (a .outputs)))) noRun) _ (sym (chart-zero (c .before .before .before .before .before .before .before .before .before .before .before .before .before .before .before .before .before .before .before)) ∙ enough _ _ (c .before .before .before .before .before .before .before .before .before .before .before .before .before .before .before .before .before .before .before .before .before .before .before .before .before .before .before .before .before .before .before .before .before .before .before .before .if1 .left))
-          (started-as (a .t1) (a .clock) _ (c .before .before .before .before .before .settle .result) _ _ (c .before .before .before .before .before .before .before .before .before .before .before .before .before .before .before .before .initial-set .ensures) (s .0) (c .before .before .settled-counters .ensures) (c .settled-timers .ensures)),
+    let acting = c .before .before .before .before .before in
+    let initial = acting .before .before .before .before .before .before .before .before .before .before .before in
+    let held = initial .before .before .before in
+    let a = call held .args in
+    let s = acting .settle .ensures in (
+      accepted-by _ (started (a .t1) (a .clock)) (refused (startCode (a .t1) (length (now (a .outputs)))) noRun) _
+          (sym (chart-zero held) ∙ enough _ _ (lent held .if1 .left))
+          (started-as (a .t1) (a .clock) _ (acting .settle .result) _ _ (initial .initial-set .ensures) (s .0) (c .before .before .settled-counters .ensures) (c .settled-timers .ensures)),
       s .1,
     )
 

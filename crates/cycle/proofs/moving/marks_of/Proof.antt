@@ -13,7 +13,10 @@ use Rattle.cycle.proofs.moving.marks_of.Statement.{statement}
 use Rattle.cycle.proofs.moving.marks_of.Tie as tie
 
 abbrev Inv-loop : tie.InvT-loop
-Inv-loop n step signal expected left signals good₀ bad₀ i₀ good bad i = (good ≡ collect (λ j. goodAt (getD step j 0) (getD signal j 0) (getD expected j 0) left signals) i) × (bad ≡ collect (λ j. badAt (getD step j 0) (getD signal j 0) (getD expected j 0) left signals) i) × (i ≤ n)
+Inv-loop n step signal expected left signals good₀ bad₀ i₀ good bad i =
+    (good ≡ collect (λ j. goodAt (getD step j 0) (getD signal j 0) (getD expected j 0) left signals) i)
+    × (bad ≡ collect (λ j. badAt (getD step j 0) (getD signal j 0) (getD expected j 0) left signals) i)
+    × (i ≤ n)
 
 abbrev μ-loop : tie.MeasureT-loop
 μ-loop n step signal expected left signals good₀ bad₀ i₀ good bad i = n - i

@@ -31,7 +31,17 @@ or-else-requires-2 c κs = search needs
 returns : tie.Need-returns
 unfolding transitionCode
 returns c =
-    rw (c .or-else2 .ensures, c .before .or-else .ensures, c .before .before .unless3 .ensures, c .before .before .before .unless2 .ensures, c .before .before .before .before .unless .ensures, c .before .before .before .before .before .is-apart2 .ensures, c .before .before .before .before .before .before .is-apart .ensures, c .before .before .before .before .before .before .before .transition-fits .ensures)
+    let tests = c .before .before .before .before in
+    rw (
+      c .or-else2 .ensures,
+      c .before .or-else .ensures,
+      c .before .before .unless3 .ensures,
+      c .before .before .before .unless2 .ensures,
+      tests .unless .ensures,
+      tests .before .is-apart2 .ensures,
+      tests .before .before .is-apart .ensures,
+      tests .before .before .before .transition-fits .ensures,
+    )
 
 pub transition-code-spec : {M : Type 1} → statement M
 transition-code-spec =

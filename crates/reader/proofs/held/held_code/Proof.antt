@@ -53,7 +53,23 @@ or-else-requires-5 c κs = search needs
 returns-2 : tie.Need-returns-2
 unfolding heldCode
 returns-2 c =
-    rw (sym (c .before .before .before .before .before .before .before .before .before .before .before .before .limits-fit .ensures) ∙ not-false _ (c .before .before .before .before .before .before .before .before .before .before .before .if1 .left), c .or-else5 .ensures, c .before .or-else4 .ensures, c .before .before .or-else3 .ensures, c .before .before .before .or-else2 .ensures, c .before .before .before .before .or-else .ensures, c .before .before .before .before .before .closing-code .ensures, c .before .before .before .before .before .before .cases-code .ensures, c .before .before .before .before .before .before .before .blocks-code .ensures, c .before .before .before .before .before .before .before .before .transitions-code .ensures, c .before .before .before .before .before .before .before .before .before .actions-code .ensures, c .before .before .before .before .before .before .before .before .before .before .steps-code .ensures)
+    let closing = c .before .before .before .before .before in
+    let transitions = closing .before .before .before in
+    let limited = transitions .before .before .before in
+    rw (
+      sym (limited .before .limits-fit .ensures) ∙ not-false _ (limited .if1 .left),
+      c .or-else5 .ensures,
+      c .before .or-else4 .ensures,
+      c .before .before .or-else3 .ensures,
+      c .before .before .before .or-else2 .ensures,
+      c .before .before .before .before .or-else .ensures,
+      closing .closing-code .ensures,
+      closing .before .cases-code .ensures,
+      closing .before .before .blocks-code .ensures,
+      transitions .transitions-code .ensures,
+      transitions .before .actions-code .ensures,
+      transitions .before .before .steps-code .ensures,
+    )
 
 pub held-code-spec : {M : Type 1} → statement M
 held-code-spec =

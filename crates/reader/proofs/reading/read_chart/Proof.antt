@@ -8,7 +8,8 @@ use Rattle.reader.specs.Framing.{kindAt, recordNumber}
 use Rattle.reader.specs.Reading.{refused, withBody}
 use Rattle.reader.specs.declared.bodies.Body.{Body}
 use Rattle.reader.proofs.reading.Laws.{Room, Onward, begin, refused-here, ended-here, halted, onward, room}
-use Prim.Native.Nat.{_+_, _-_, _<_}
+use Prim.Native.Nat.{ℕ, _+_, _-_, _<_}
+use mathlib.Core.List.{List}
 use native.Mathlib.Omega.{arith}
 use lib.ListN.{length}
 use denote.Ref.{now}
@@ -22,25 +23,42 @@ Inv-loop bytes chart₀ at₀ before₀ chart at before = Onward bytes at before
 abbrev μ-loop : tie.MeasureT-loop
 μ-loop bytes chart₀ at₀ before₀ chart at before = length bytes - at
 
+-- the turn that a place is in, its record, its bytes, and where the next record begins
+abbrev turn : tie.Else1 Inv-loop μ-loop → tie.At-loop Inv-loop μ-loop
+turn c = c .before .before .before .before .before .before .before
+
+abbrev read : tie.Else1 Inv-loop μ-loop → tie.After-next2 Inv-loop μ-loop
+read c = c .before .before .before .before
+
+abbrev bytes : tie.At-loop Inv-loop μ-loop → List ℕ
+bytes c = now (c .before .before .before .args .bytes)
+
+abbrev after : tie.Else1 Inv-loop μ-loop → ℕ
+after c = read c .next2 .given .0 .1 .0 + read c .next2 .given .0 .1 .1 .0
+
 -- the record that was found
-found : (c : tie.After-next2 Inv-loop μ-loop) → Found (now (c .before .before .before .before .before .before .args .bytes)) (c .before .before .before .loop .at) (c .before .before .before .loop .before) (c .next2 .given .0 .0) (c .next2 .given .0 .1 .0) (c .next2 .given .0 .1 .1 .0)
+found : (c : tie.After-next2 Inv-loop μ-loop) → Found (bytes (c .before .before .before)) (c .before .before .before .loop .at) (c .before .before .before .loop .before) (c .next2 .given .0 .0) (c .next2 .given .0 .1 .0) (c .next2 .given .0 .1 .1 .0)
 found c = is-found _ _ _ _ _ _ (rw (c .next2 .given .1) at (c .before .before .record-at .ensures))
 
 -- the end
-over : (c : tie.After-enum-told Inv-loop μ-loop) → (0 ≡ recordNumber (now (c .before .before .before .before .before .before .args .bytes)) (c .before .before .before .loop .at) (c .before .before .before .loop .before)) × Headed (now (c .before .before .before .before .before .before .args .bytes)) (c .before .before .before .loop .at) (c .before .before .before .loop .before) × (kindAt (now (c .before .before .before .before .before .before .args .bytes)) (c .before .before .before .loop .at) ≡ 0)
+abbrev Over : tie.At-loop Inv-loop μ-loop → Type 0
+Over c =
+    (0 ≡ recordNumber (bytes c) (c .loop .at) (c .loop .before)) × Headed (bytes c) (c .loop .at) (c .loop .before) × (kindAt (bytes c) (c .loop .at) ≡ 0)
+
+over : (c : tie.After-enum-told Inv-loop μ-loop) → Over (c .before .before .before)
 over c = is-end _ _ _ (rw (c .enum-told .given .1) at (c .before .before .record-at .ensures))
 
 -- the body x was judged, and there is room for it
-fits-in : (c : tie.Else1 Inv-loop μ-loop) (x : Body) → c .before .before .body-at .result ≡ x → Room (c .before .before .before .before .before .before .before .loop .chart) x
+fits-in : (c : tie.Else1 Inv-loop μ-loop) (x : Body) → c .before .before .body-at .result ≡ x → Room (turn c .loop .chart) x
 fits-in c x g = room _ x (rw g at (sym (c .before .body-code .ensures) ∙ c .if1 .left))
 
 goes-on : (c : tie.Else1 Inv-loop μ-loop) (x : Body) → c .before .before .body-at .result ≡ x
-    → Onward (now (c .before .before .before .before .before .before .before .before .before .before .args .bytes)) (c .before .before .before .before .next2 .given .0 .1 .0 + c .before .before .before .before .next2 .given .0 .1 .1 .0) (c .before .before .before .before .next2 .given .0 .0) (withBody (c .before .before .before .before .before .before .before .loop .chart) x)
+    → Onward (bytes (turn c)) (after c) (read c .next2 .given .0 .0) (withBody (turn c .loop .chart) x)
 goes-on c x g =
-    onward _ _ _ _ (c .before .before .before .before .before .before .before .loop .inv) _ _ _ (found (c .before .before .before .before)) _ (c .before .before .body-at .ensures) _ (c .before .body-code .ensures) (c .if1 .left) x g
+    onward _ _ _ _ (turn c .loop .inv) _ _ _ (found (read c)) _ (c .before .before .body-at .ensures) _ (c .before .body-code .ensures) (c .if1 .left) x g
 
-shrinks : (c : tie.Else1 Inv-loop μ-loop) → length (now (c .before .before .before .before .before .before .before .before .before .before .args .bytes)) - (c .before .before .before .before .next2 .given .0 .1 .0 + c .before .before .before .before .next2 .given .0 .1 .1 .0) < length (now (c .before .before .before .before .before .before .before .before .before .before .args .bytes)) - c .before .before .before .before .before .before .before .loop .at
-shrinks c = let f = found (c .before .before .before .before) in let h = f .headed in omega (arith, f .place, f .size, h .whole)
+shrinks : (c : tie.Else1 Inv-loop μ-loop) → length (bytes (turn c)) - (after c) < length (bytes (turn c)) - turn c .loop .at
+shrinks c = let f = found (read c) in let h = f .headed in omega (arith, f .place, f .size, h .whole)
 
 no-chart-requires : tie.Need-no-chart-requires Inv-loop μ-loop
 no-chart-requires c κs = search needs
