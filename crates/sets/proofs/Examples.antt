@@ -1,8 +1,8 @@
 -- The definitions compute on concrete words.
 use mathlib.Core.Bool.{true, false}
 use mathlib.Core.Path.{_≡_, refl}
-use Rattle.sets.specs.Loops.{all}
-use Rattle.sets.specs.Sets.{has, collect, Within, Apart, Below, union, minus, insert}
+use Rattle.sets.specs.Loops.{all, counted}
+use Rattle.sets.specs.Sets.{has, collect, Within, Apart, Below, union, minus, insert, size}
 
 -- 9223372036854775809 is {0, 63}, 18446744073709551615 every number below 64
 member : has 9223372036854775809 63 ≡ true
@@ -31,3 +31,7 @@ put = refl
 joined : union 5 9223372036854775808 ≡ 9223372036854775813
 unfolding collect
 joined = refl
+
+three : size 9223372036854775813 ≡ 3
+unfolding counted
+three = refl

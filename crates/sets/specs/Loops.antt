@@ -1,7 +1,7 @@
 -- What a loop over 0, 1, .. has in hand after n turns.
 use mathlib.Core.Bool.{Bool, true, false, _&&_, _||_, cond}
 use mathlib.Core.List.{List, [], _∷_}
-use Prim.Native.Nat.{ℕ, zero, suc}
+use Prim.Native.Nat.{ℕ, zero, suc, _+_}
 use lib.Dec.{eqb}
 
 -- p holds of every number below n
@@ -13,6 +13,11 @@ all p (suc n) = all p n && p n
 unfoldable pub some : (ℕ → Bool) → ℕ → Bool
 some p zero = false
 some p (suc n) = some p n || p n
+
+-- how many numbers below n p holds of
+unfoldable pub counted : (ℕ → Bool) → ℕ → ℕ
+counted p zero = 0
+counted p (suc n) = counted p n + cond (p n) 1 0
 
 -- the first of two numbers of refusal that is not 0
 abbrev pub orElse : ℕ → ℕ → ℕ

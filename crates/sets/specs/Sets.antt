@@ -2,7 +2,7 @@
 use mathlib.Core.Bool.{Bool, _&&_, _||_, not, cond}
 use Prim.Native.Nat.{ℕ, zero, suc, _+_, _/_, _%_, _^_}
 use lib.Dec.{eqb, ltb}
-use Rattle.sets.specs.Loops.{all, some}
+use Rattle.sets.specs.Loops.{all, some, counted}
 
 -- bit k of s, 0 or 1
 abbrev pub bit : ℕ → ℕ → ℕ
@@ -48,3 +48,7 @@ insert s k = collect (λ j. has s j || eqb j k) 64
 -- the set of f b for the numbers b below n of which p holds
 abbrev pub named : (ℕ → Bool) → (ℕ → ℕ) → ℕ → ℕ
 named p f n = collect (λ a. some (λ b. p b && eqb (f b) a) n) 64
+
+-- how many members s has
+abbrev pub size : ℕ → ℕ
+size s = counted (λ k. has s k) 64

@@ -1,7 +1,7 @@
 // Sets of numbers below 64 as one word: bit k is number k (document 01, "The chart and its bytes").
 ghost use mathlib.Core.Path.{_≡_};
 ghost use mathlib.Core.Bool.{cond};
-ghost use Rattle.sets.specs.Sets.{has, Within, Apart, Below, union, inter, minus, insert};
+ghost use Rattle.sets.specs.Sets.{has, Within, Apart, Below, union, inter, minus, insert, size};
 
 pub fn is_in(s: u64, k: usize) -> bool
     ensures { λ r. ⌜ r ≡ has s k ⌝ }
@@ -66,4 +66,10 @@ pub fn with_if(s: u64, k: usize, b: bool) -> u64
     ensures { λ r. ⌜ r ≡ cond b (insert s k) s ⌝ }
 {
     if b { with(s, k) } else { s }
+}
+
+pub fn size(s: u64) -> usize
+    ensures { λ r. ⌜ r ≡ size s ⌝ }
+{
+    u64::count_ones(s) as usize
 }
