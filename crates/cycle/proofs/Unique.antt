@@ -1,5 +1,6 @@
 -- Two answers that one statement allows are equal, for each public function.
 use Prim.Native.Nat.{ℕ}
+use mathlib.Core.Bool.{Bool}
 use mathlib.Core.List.{List}
 use mathlib.Core.Path.{_≡_, sym, ap, _∙_}
 use lib.IntN.{ℤ}
@@ -8,6 +9,7 @@ use Rattle.sets.proofs.Unique.{one-answer}
 use Rattle.reader.specs.declared.chart.Chart.{Chart}
 use Rattle.cycle.specs.Run.{noRun, longerCounter, longerTimer}
 use Rattle.cycle.specs.Time.{elapsed}
+use Rattle.cycle.specs.Belongs.{belongsTo}
 use Rattle.cycle.specs.Cycling.{startOf, cycleOf, outputsAfter}
 use Rattle.cycle.specs.declared.run.StepCounter.{StepCounter}
 use Rattle.cycle.specs.declared.run.ActionTimer.{ActionTimer}
@@ -25,6 +27,9 @@ timer-longer-unique e t r q = one-answer
 
 pub elapsed-unique : (last new r q : ℕ) → r ≡ elapsed last new → q ≡ elapsed last new → r ≡ q
 elapsed-unique last new r q = one-answer
+
+pub belongs-unique : (steps actions cases : ℕ) (run : Run) (r q : Bool) → r ≡ belongsTo steps actions cases run → q ≡ belongsTo steps actions cases run → r ≡ q
+belongs-unique steps actions cases run r q = one-answer
 
 -- the answer, and the lent outputs with it
 both : (c : Chart) (x r q : Cycled) (out f g : List ℤ) → r ≡ x → q ≡ x → f ≡ outputsAfter c r out → g ≡ outputsAfter c q out → (r ≡ q) × (f ≡ g)

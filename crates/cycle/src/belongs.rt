@@ -63,7 +63,7 @@ fn names_fit(
         & sets::names_below(bad, cases)
 }
 
-pub(crate) fn belongs(run: Run, steps: usize, actions: usize, cases: usize) -> bool
+pub fn belongs(run: Run, steps: usize, actions: usize, cases: usize) -> bool
     ensures { λ r. ⌜ r ≡ belongsTo steps actions cases run ⌝ }
 {
     let counters = run.counters;
