@@ -214,13 +214,19 @@ FILES = {
     "samples/chart_a.bin": CHART_A,
 }
 
-if __name__ == "__main__":
-    assert len(CHART_A) == 152
-    for name, content in FILES.items():
+
+def store(files, script):
+    """Write the files, or with --check stop at the first that is not what the script says."""
+    for name, content in files.items():
         path = ROOT / name
         if "--check" not in sys.argv[1:]:
             path.parent.mkdir(parents=True, exist_ok=True)
             path.write_bytes(content)
         elif not path.is_file() or path.read_bytes() != content:
-            sys.exit(f"{name} is not what tests/read_charts.py says")
+            sys.exit(f"{name} is not what {script} says")
+
+
+if __name__ == "__main__":
+    assert len(CHART_A) == 152
+    store(FILES, "tests/read_charts.py")
     print(f"read_charts: {len(CASES)} cases")

@@ -14,7 +14,8 @@ from collections import namedtuple
 
 sys.dont_write_bytecode = True  # leave no folder beside read_charts.py
 from read_charts import (  # noqa: E402
-    CHART_A, D, DAY, DS, END, L, N, P, P0, P1, R, ROOT, S, SD, SL, action, block, case, members, step, transition,
+    CHART_A, D, DAY, DS, END, L, N, P, P0, P1, R, S, SD, SL, action, block, case, members, step, store,
+    transition,
 )
 
 # The chart, taken apart
@@ -532,11 +533,5 @@ if __name__ == "__main__":
         b"\x98\0" + CHART_A + b"\xe8\3\0\0" + b"\2\0" + b"\xf2\3\0\0\1\0\0\0" + b"\xe6\5\0\0\2\0\0\0")
     assert lines[1] == "0 1 1010 2 3 2 0 0 0 c t o 120" + " 0" * 31
     assert lines[5] == "0 0 1509 2 3 2 0 0 0 c 1:499 t o 120" + " 0" * 31
-    for name, content in files.items():
-        path = ROOT / name
-        if "--check" not in sys.argv[1:]:
-            path.parent.mkdir(parents=True, exist_ok=True)
-            path.write_bytes(content)
-        elif not path.is_file() or path.read_bytes() != content:
-            sys.exit(f"{name} is not what tests/run_cycles.py says")
+    store(files, "tests/run_cycles.py")
     print(f"run_cycles: {len(CASES)} cases, {len(lines)} calls")
