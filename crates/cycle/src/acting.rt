@@ -4,6 +4,7 @@ ghost use Prim.Native.Nat.{ℕ, _≤_, _<_};
 ghost use lib.ListN.{getD};
 ghost use Rattle.cycle.specs.Acting.{untimedRequest, timedRequest, request, putting, askingAt, asked, acted};
 use crate::moving;
+use reader::numbers;
 
 // The steps that blocks go by: active now, entered, left, and those whose counter runs on.
 pub struct Steps {
@@ -118,12 +119,6 @@ fn ask(
     )
 }
 
-pub(crate) fn index_of(x: u8) -> usize
-    ensures { λ r. ⌜ (r ≡ x) × (r < 256) ⌝ }
-{
-    x as usize
-}
-
 pub(crate) fn ask_blocks<'a>(
     n: usize,
     blockstep: &'a [u8; 256],
@@ -146,8 +141,8 @@ pub(crate) fn ask_blocks<'a>(
     };
     let mut i = 0;
     while i < n {
-        let s = index_of(blockstep[i]);
-        let a = index_of(blockaction[i]);
+        let s = numbers::index_of(blockstep[i]);
+        let a = numbers::index_of(blockaction[i]);
         asked = ask(
             asked,
             s,

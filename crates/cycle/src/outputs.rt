@@ -5,7 +5,7 @@ ghost use mathlib.Core.List.{_++_};
 ghost use Prim.Native.Nat.{ℕ, _≤_, _<_};
 ghost use lib.ListN.{length, getD, drop};
 ghost use Rattle.cycle.specs.Outputs.{outputsOf, wiped, driven};
-use crate::acting;
+use reader::numbers;
 
 fn wipe(out: &mut [i32])
     requires { ⌜ 32 ≤ length (now out) ⌝ }
@@ -32,7 +32,7 @@ fn drive<'a>(out: &mut [i32], n: usize, output: &'a [u8; 32], value: &'a [i32; 3
     let mut a = n;
     while 0 < a {
         a -= 1;
-        let to = acting::index_of(output[a]);
+        let to = numbers::index_of(output[a]);
         let old = out[to];
         let new = value[a];
         out[to] = pick(sets::is_in(activity, a), new, old);

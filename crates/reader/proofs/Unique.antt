@@ -1,5 +1,5 @@
 -- Two answers that one statement allows are equal, for each public function. `record_at`'s is in framing/Laws.
-use Prim.Native.Nat.{ℕ}
+use Prim.Native.Nat.{ℕ, _<_}
 use mathlib.Core.List.{List}
 use mathlib.Core.Path.{_≡_}
 use Rattle.sets.proofs.Unique.{one-answer}
@@ -11,6 +11,9 @@ use Rattle.reader.specs.declared.reading.Reading.{Reading}
 
 pub no-chart-unique : (r q : Chart) → r ≡ noChart → q ≡ noChart → r ≡ q
 no-chart-unique r q = one-answer
+
+pub index-of-unique : (x r q : ℕ) → (r ≡ x) × (r < 256) → (q ≡ x) × (q < 256) → r ≡ q
+index-of-unique x r q e f = one-answer (e .0) (f .0)
 
 pub chart-code-unique : (c : Chart) (r q : ℕ) → r ≡ chartCode c → q ≡ chartCode c → r ≡ q
 chart-code-unique c r q = one-answer

@@ -1,7 +1,7 @@
 // The test of a chart that a caller held and may have altered: 4, then records by kind with 5, 6, 7, then 9, 8.
 // Every call of the engine makes it, so each table is one pass without a branch on its entries; only transitions stop at the first refusal.
 ghost use mathlib.Core.Path.{_≡_};
-ghost use Prim.Native.Nat.{_≤_, _<_};
+ghost use Prim.Native.Nat.{_≤_};
 ghost use Rattle.reader.specs.Held.{limitsFit, stepsCode, actionsCode, transitionsCode, blocksCode, casesCode, someInitial, timedTwice, closingCode, heldCode, chartCode};
 use crate::chart::Chart;
 use crate::codes::BAD_FIELD;
@@ -9,6 +9,7 @@ use crate::codes::NO_INITIAL;
 use crate::codes::TIMED_TWICE;
 use crate::codes::TOO_MANY;
 use crate::fields;
+use crate::numbers;
 
 fn limits_fit(steps: usize, actions: usize, transitions: usize, blocks: usize, cases: usize) -> bool
     ensures { λ r. ⌜ r ≡ limitsFit steps actions transitions blocks cases ⌝ }
@@ -136,12 +137,6 @@ fn some_initial(n: usize, initial: &[u8; 64]) -> bool
     any
 }
 
-fn index_of(x: u8) -> usize
-    ensures { λ r. ⌜ (r ≡ x) × (r < 256) ⌝ }
-{
-    x as usize
-}
-
 fn timed_twice<'a>(n: usize, blockaction: &'a [u8; 256], qualifier: &'a [u8; 256]) -> bool
     requires { ⌜ n ≤ 256 ⌝ }
     ensures { λ r. ⌜ r ≡ timedTwice n (now (blockaction .entry)) (now (qualifier .entry)) ⌝ }
@@ -151,7 +146,7 @@ fn timed_twice<'a>(n: usize, blockaction: &'a [u8; 256], qualifier: &'a [u8; 256
     let mut i = 0;
     while i < n {
         let timed = fields::is_timed(qualifier[i]);
-        let a = index_of(blockaction[i]);
+        let a = numbers::index_of(blockaction[i]);
         let again = seen[a];
         twice = twice | (timed & again);
         seen[a] = again | timed;

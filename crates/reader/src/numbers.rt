@@ -1,6 +1,6 @@
 // Numbers in a file, the least byte first. Each wider one is two of half its width.
 ghost use mathlib.Core.Path.{_≡_};
-ghost use Prim.Native.Nat.{_+_, _≤_};
+ghost use Prim.Native.Nat.{_+_, _≤_, _<_};
 ghost use lib.ListN.{length};
 ghost use mir.Syntax.{w32};
 ghost use mir.Val.{toZ};
@@ -43,4 +43,11 @@ pub(crate) fn signed(x: u32) -> i32
     }
     let y = 4294967295 - x;
     !(y as i32)
+}
+
+// A byte that names an entry of a table.
+pub fn index_of(x: u8) -> usize
+    ensures { λ r. ⌜ (r ≡ x) × (r < 256) ⌝ }
+{
+    x as usize
 }
