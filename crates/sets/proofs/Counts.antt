@@ -5,7 +5,8 @@ use mathlib.Core.Path.{_≡_, refl, sym, ap, _∙_}
 use native.Mathlib.Nat.{add-comm, add-zero, add-suc}
 use native.Mathlib.Omega.{arith}
 use lib.Count.{ones, ones-cat, onesIn}
-use Rattle.sets.specs.Loops.{counted}
+use native.Mathlib.Numerals.{add-one}
+use Rattle.sets.specs.Loops.{summed, counted}
 use Rattle.sets.specs.Sets.{has, collect, Below, size}
 use Rattle.sets.proofs.Below.{below-has}
 use Rattle.sets.proofs.Members.{same-members, collect-lt, has-collect}
@@ -15,7 +16,7 @@ unfolding ones onesIn
 one-one = refl
 
 ones-collect : (p : ℕ → Bool) (n : ℕ) → ones (collect p n) ≡ counted p n
-unfolding collect counted ones onesIn
+unfolding collect summed ones onesIn
 ones-collect p zero = refl
 ones-collect p (suc n) = go (p n) (ones-collect p n)
   where
@@ -29,21 +30,33 @@ pub ones-size : (s : ℕ) → s < 2 ^ 64 → ones s ≡ size s
 ones-size s h =
     ap ones (same-members 64 s (collect (λ k. has s k) 64) h (collect-lt _ 64) (λ k l. sym (has-collect (λ k. has s k) 64 k l))) ∙ ones-collect (λ k. has s k) 64
 
--- the same numbers are counted
-pub counted-same : (p q : ℕ → Bool) (n : ℕ) → ((k : ℕ) → k < n → p k ≡ q k) → counted p n ≡ counted q n
-unfolding counted
-counted-same p q zero h = refl
-counted-same p q (suc n) h = rw (counted-same p q n (λ k l. h k (omega arith)), h n (omega arith))
+-- the same numbers are summed
+pub summed-same : (f g : ℕ → ℕ) (n : ℕ) → ((k : ℕ) → k < n → f k ≡ g k) → summed f n ≡ summed g n
+unfolding summed
+summed-same f g zero h = refl
+summed-same f g (suc n) h = rw (summed-same f g n (λ k l. h k (omega arith)), h n (omega arith))
 
--- nothing is counted where p holds of nothing
-pub counted-more : (p : ℕ → Bool) (n d : ℕ) → ((k : ℕ) → n ≤ k → k < n + d → p k ≡ false) → counted p (n + d) ≡ counted p n
-unfolding counted
-counted-more p n zero h = ap (λ m. counted p m) (add-zero n)
-counted-more p n (suc d) h = rw (add-suc, h (n + d) (omega arith) (omega arith), add-zero) (counted-more p n d (λ k a b. h k a (omega arith)))
+-- zeros add nothing
+pub summed-more : (f : ℕ → ℕ) (n d : ℕ) → ((k : ℕ) → n ≤ k → k < n + d → f k ≡ 0) → summed f (n + d) ≡ summed f n
+unfolding summed
+summed-more f n zero h = ap (λ m. summed f m) (add-zero n)
+summed-more f n (suc d) h = rw (add-suc, h (n + d) (omega arith) (omega arith), add-zero) (summed-more f n d (λ k a b. h k a (omega arith)))
+
+-- what a loop that sums has in hand
+pub summed-start : (f : ℕ → ℕ) → 0 ≡ summed f 0
+unfolding summed
+summed-start f = refl
+
+pub summed-turn : (f : ℕ → ℕ) (k : ℕ) {now next : ℕ} → now ≡ summed f k → next ≡ now + f k → next ≡ summed f (k + 1)
+unfolding summed
+summed-turn f k e h = rw (add-one, h, e)
+
+pub counted-same : (p q : ℕ → Bool) (n : ℕ) → ((k : ℕ) → k < n → p k ≡ q k) → counted p n ≡ counted q n
+counted-same p q n h = summed-same (λ k. cond (p k) 1 0) (λ k. cond (q k) 1 0) n (λ k l. ap (λ (b : Bool). cond b 1 0) (h k l))
 
 -- p holds of a number or does not
 pub counted-not : (p : ℕ → Bool) (n : ℕ) → counted p n + counted (λ k. not (p k)) n ≡ n
-unfolding counted
+unfolding summed
 counted-not p zero = refl
 counted-not p (suc n) = go (p n) (counted-not p n)
   where
@@ -53,7 +66,7 @@ counted-not p (suc n) = go (p n) (counted-not p n)
 
 -- a set that names only numbers below n is counted below n
 pub size-below : (s n : ℕ) (p : ℕ → Bool) → n ≤ 64 → Below s n ≡ true → ((k : ℕ) → k < 64 → has s k ≡ p k) → size s ≡ counted p n
-size-below s n p h e g = ap (λ m. counted (λ k. has s k) m) full ∙ counted-more (λ k. has s k) n (64 - n) beyond ∙ counted-same (λ k. has s k) p n (λ k l. g k (omega arith))
+size-below s n p h e g = ap (λ m. counted (λ k. has s k) m) full ∙ summed-more (λ k. cond (has s k) 1 0) n (64 - n) (λ k a b. ap (λ (x : Bool). cond x 1 0) (beyond k a b)) ∙ counted-same (λ k. has s k) p n (λ k l. g k (omega arith))
   where
     full : 64 ≡ n + (64 - n)
     full = omega arith

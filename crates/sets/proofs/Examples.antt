@@ -1,7 +1,7 @@
 -- The definitions compute on concrete words.
 use mathlib.Core.Bool.{true, false}
 use mathlib.Core.Path.{_≡_, refl}
-use Rattle.sets.specs.Loops.{all, counted}
+use Rattle.sets.specs.Loops.{all, summed}
 use Rattle.sets.specs.Sets.{has, collect, Within, Apart, Below, union, minus, insert, size}
 
 -- 9223372036854775809 is {0, 63}, 18446744073709551615 every number below 64
@@ -33,5 +33,5 @@ unfolding collect
 joined = refl
 
 three : size 9223372036854775813 ≡ 3
-unfolding counted
+unfolding summed
 three = refl

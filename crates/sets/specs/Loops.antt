@@ -14,10 +14,14 @@ unfoldable pub some : (ℕ → Bool) → ℕ → Bool
 some p zero = false
 some p (suc n) = some p n || p n
 
+-- f 0 + f 1 + .., n of them
+unfoldable pub summed : (ℕ → ℕ) → ℕ → ℕ
+summed f zero = 0
+summed f (suc n) = summed f n + f n
+
 -- how many numbers below n p holds of
-unfoldable pub counted : (ℕ → Bool) → ℕ → ℕ
-counted p zero = 0
-counted p (suc n) = counted p n + cond (p n) 1 0
+abbrev pub counted : (ℕ → Bool) → ℕ → ℕ
+counted p n = summed (λ k. cond (p k) 1 0) n
 
 -- the first of two numbers of refusal that is not 0
 abbrev pub orElse : ℕ → ℕ → ℕ
