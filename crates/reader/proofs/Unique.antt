@@ -3,6 +3,7 @@ use Prim.Native.Nat.{ℕ, _<_}
 use mathlib.Core.List.{List}
 use mathlib.Core.Path.{_≡_}
 use Rattle.sets.proofs.Unique.{one-answer}
+use Rattle.reader.specs.Numbers.{leFrom}
 use Rattle.reader.specs.Chart.{noChart}
 use Rattle.reader.specs.Held.{heldCode, chartCode}
 use Rattle.reader.specs.Reading.{readChart}
@@ -14,6 +15,9 @@ no-chart-unique r q = one-answer
 
 pub index-of-unique : (x r q : ℕ) → (r ≡ x) × (r < 256) → (q ≡ x) × (q < 256) → r ≡ q
 index-of-unique x r q e f = one-answer (e .0) (f .0)
+
+pub from-unique : (w : ℕ) (s : List ℕ) (at r q : ℕ) → r ≡ leFrom w s at → q ≡ leFrom w s at → r ≡ q
+from-unique w s at r q = one-answer
 
 pub chart-code-unique : (c : Chart) (r q : ℕ) → r ≡ chartCode c → q ≡ chartCode c → r ≡ q
 chart-code-unique c r q = one-answer

@@ -1,6 +1,6 @@
 // One record: its head, and where its body stands (document 01, "A manufacturer's tool may take the reader by itself").
 ghost use mathlib.Core.Path.{_≡_};
-ghost use Prim.Native.Nat.{_-_, _≤_};
+ghost use Prim.Native.Nat.{_≤_};
 ghost use Rattle.reader.specs.Framing.{bodyLength, kindFits, headNumber, Answers};
 use crate::codes::BAD_KIND;
 use crate::codes::BAD_LENGTH;
@@ -21,13 +21,6 @@ pub enum Next {
 }
 
 const LENGTHS: [u16; 6] = [0, 1, 5, 36, 7, 3];
-
-// How many bytes are left from a place on: none from one beyond the bytes, however large.
-fn left(n: usize, at: usize) -> usize
-    ensures { λ r. ⌜ r ≡ n - at ⌝ }
-{
-    if at <= n { n - at } else { 0 }
-}
 
 fn kind_fits(kind: u16, before: u16) -> bool
     ensures { λ r. ⌜ r ≡ kindFits kind before ⌝ }
@@ -60,7 +53,7 @@ fn head_code(length: u16, kind: u16, rest: usize, before: u16) -> u8
 pub fn record_at(bytes: &[u8], at: usize, before: u16) -> Next
     ensures { λ r. ⌜ Answers r (now (bytes .entry)) at before ⌝ }
 {
-    if left(bytes.len(), at) < 4 {
+    if numbers::left(bytes.len(), at) < 4 {
         return Next::Refused {
             code: CUT,
             place: at,

@@ -1,10 +1,10 @@
 // Numbers in a file, the least byte first. Each wider one is two of half its width.
 ghost use mathlib.Core.Path.{_≡_};
-ghost use Prim.Native.Nat.{_+_, _≤_, _<_};
+ghost use Prim.Native.Nat.{_+_, _-_, _≤_, _<_};
 ghost use lib.ListN.{length};
 ghost use mir.Syntax.{w32};
 ghost use mir.Val.{toZ};
-ghost use Rattle.reader.specs.Numbers.{le};
+ghost use Rattle.reader.specs.Numbers.{le, leFrom};
 
 fn byte_at(bytes: &[u8], at: usize) -> u16
     requires { ⌜ at + 1 ≤ length (now bytes) ⌝ }
@@ -32,6 +32,32 @@ pub(crate) fn u64_at(bytes: &[u8], at: usize) -> u64
     ensures { λ r. ⌜ r ≡ le 8 (now (bytes .entry)) at ⌝ }
 {
     u32_at(bytes, at) as u64 + 4294967296 * (u32_at(bytes, at + 4) as u64)
+}
+
+// How many bytes are left from a place on: none from one beyond the bytes, however large.
+pub(crate) fn left(n: usize, at: usize) -> usize
+    ensures { λ r. ⌜ r ≡ n - at ⌝ }
+{
+    if at <= n { n - at } else { 0 }
+}
+
+// For records that are framed alike elsewhere, at any place: 0 where the number is cut.
+pub fn u16_from(bytes: &[u8], at: usize) -> u16
+    ensures { λ r. ⌜ r ≡ leFrom 2 (now (bytes .entry)) at ⌝ }
+{
+    if left(bytes.len(), at) < 2 {
+        return 0;
+    }
+    u16_at(bytes, at)
+}
+
+pub fn u32_from(bytes: &[u8], at: usize) -> u32
+    ensures { λ r. ⌜ r ≡ leFrom 4 (now (bytes .entry)) at ⌝ }
+{
+    if left(bytes.len(), at) < 4 {
+        return 0;
+    }
+    u32_at(bytes, at)
 }
 
 // The 32 bits read as a signed number. A cast may not lose the top bit, so the upper half goes by its complement.
