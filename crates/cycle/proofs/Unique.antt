@@ -9,6 +9,7 @@ use Rattle.sets.proofs.Unique.{one-answer}
 use Rattle.reader.specs.declared.chart.Chart.{Chart}
 use Rattle.cycle.specs.Run.{noRun, longerCounter, longerTimer}
 use Rattle.cycle.specs.Time.{elapsed}
+use Rattle.cycle.specs.Moving.{initialOf}
 use Rattle.cycle.specs.Belongs.{belongsTo}
 use Rattle.cycle.specs.Cycling.{startOf, cycleOf, outputsAfter}
 use Rattle.cycle.specs.declared.run.StepCounter.{StepCounter}
@@ -27,6 +28,9 @@ timer-longer-unique e t r q = one-answer
 
 pub elapsed-unique : (last new r q : ℕ) → r ≡ elapsed last new → q ≡ elapsed last new → r ≡ q
 elapsed-unique last new r q = one-answer
+
+pub initial-of-unique : (n : ℕ) (initial : List ℕ) (r q : ℕ) → r ≡ initialOf n initial → q ≡ initialOf n initial → r ≡ q
+initial-of-unique n initial r q = one-answer
 
 pub belongs-unique : (steps actions cases : ℕ) (run : Run) (r q : Bool) → r ≡ belongsTo steps actions cases run → q ≡ belongsTo steps actions cases run → r ≡ q
 belongs-unique steps actions cases run r q = one-answer

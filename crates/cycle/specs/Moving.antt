@@ -4,7 +4,7 @@ use Prim.Native.Nat.{ℕ, _-_}
 use mathlib.Core.List.{List}
 use mathlib.Core.Bool.{Bool, Bool·beq, _&&_, not, cond}
 use lib.ListN.{getD}
-use lib.Dec.{eqb, ltb}
+use lib.Dec.{eqb, ltb, leb}
 use Rattle.sets.specs.Loops.{table}
 use Rattle.sets.specs.Sets.{has, collect}
 use Rattle.cycle.specs.Run.{counter, timer}
@@ -45,3 +45,7 @@ marksOf n step signal expected left signals = record {
 -- the initial steps
 unfoldable pub initialSet : ℕ → List ℕ → ℕ
 initialSet n initial = collect (initialAt initial) n
+
+-- the same of any number: none if there are more than 64
+abbrev pub initialOf : ℕ → List ℕ → ℕ
+initialOf n initial = cond (leb n 64) (initialSet n initial) 0

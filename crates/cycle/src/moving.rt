@@ -2,7 +2,7 @@
 ghost use mathlib.Core.Path.{_≡_};
 ghost use Prim.Native.Nat.{_≤_, _<_, _^_};
 ghost use Rattle.sets.specs.Sets.{has};
-ghost use Rattle.cycle.specs.Moving.{keptCount, settledCounters, settledTimers, asExpected, marksOf, initialSet, signalsOf};
+ghost use Rattle.cycle.specs.Moving.{keptCount, settledCounters, settledTimers, asExpected, marksOf, initialSet, initialOf, signalsOf};
 use crate::run::ActionTimer;
 use crate::run::StepCounter;
 
@@ -97,4 +97,14 @@ pub(crate) fn initial_set(n: usize, initial: &[u8; 64]) -> u64
         k += 1;
     }
     s
+}
+
+// The same of any table that a caller holds: none if it says that there are more than 64 steps.
+pub fn initial_of(n: usize, initial: &[u8; 64]) -> u64
+    ensures { λ r. ⌜ r ≡ initialOf n (now (initial .entry)) ⌝ }
+{
+    if 64 < n {
+        return 0;
+    }
+    initial_set(n, initial)
 }

@@ -1,12 +1,15 @@
 -- What a run that belongs to a chart is.
 use Prim.Native.Nat.{_^_, _<_}
 use mathlib.Core.Bool.{true}
-use mathlib.Core.Path.{_≡_}
+use mathlib.Core.Path.{_≡_, refl}
 use native.Mathlib.Nat.{lt-of-lt-of-le}
 use lib.Pow.{pow-mono}
+use Rattle.sets.specs.Loops.{all}
 use Rattle.sets.specs.Sets.{Below}
 use Rattle.sets.proofs.Loops.{and-true}
+use Rattle.sets.proofs.Below.{below-zero}
 use Rattle.sets.proofs.Members.{below-lt}
+use Rattle.cycle.specs.Run.{noRun}
 use Rattle.cycle.specs.Belongs.{countersFit, timersFit, belongs}
 use Rattle.cycle.specs.declared.run.Run.{Run}
 use Rattle.reader.specs.declared.chart.Chart.{Chart}
@@ -40,3 +43,24 @@ is-own c r o = rw (o .active, o .activity, o .stored, o .latched, o .good, o .ba
 pub activity-fits : (c : Chart) (r : Run) → Sound c → belongs c r ≡ true → r .activity < 2 ^ 64 → r .activity < 2 ^ 32
 activity-fits c r s e h =
     lt-of-lt-of-le (below-lt (r .activity) (c .actions) h (own c r e .activity)) (pow-mono (s .limits .actions))
+
+-- the all-zero run belongs to every chart
+none-counters : countersFit (noRun .counters) 0 ≡ true
+unfolding all
+none-counters = refl
+
+none-timers : timersFit (noRun .timers) 0 ≡ true
+unfolding all
+none-timers = refl
+
+pub none-own : (c : Chart) → belongs c noRun ≡ true
+none-own c = is-own c noRun (record {
+  active = below-zero (c .steps);
+  activity = below-zero (c .actions);
+  stored = below-zero (c .actions);
+  latched = below-zero (c .actions);
+  good = below-zero (c .cases);
+  bad = below-zero (c .cases);
+  counters = none-counters;
+  timers = none-timers;
+})
