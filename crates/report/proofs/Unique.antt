@@ -1,10 +1,35 @@
 -- Two answers that one statement allows are equal, for each public function.
+use Prim.Native.Nat.{ℕ, _≤_}
+use mathlib.Core.List.{List}
 use mathlib.Core.Path.{_≡_}
+use lib.ListN.{length}
 use Rattle.sets.proofs.Unique.{one-answer}
 use Rattle.reader.specs.declared.chart.Chart.{Chart}
 use Rattle.cycle.specs.declared.run.Run.{Run}
 use Rattle.report.specs.Tallying.{tallyOf}
+use Rattle.report.specs.Weighing.{weighOf}
+use Rattle.report.specs.Tracing.{callAt, numberOf, traceNumber}
+use Rattle.report.specs.Printing.{opening, printedOf, lineAfter}
 use Rattle.report.specs.declared.tallying.Tallied.{Tallied}
+use Rattle.report.specs.declared.weighing.Weighed.{Weighed}
+use Rattle.report.specs.declared.tracing.Call.{Call}
+use Rattle.report.specs.declared.printing.Standing.{Standing}
+use Rattle.report.specs.declared.printing.Printed.{Printed}
 
 pub tally-unique : (c : Chart) (run : Run) (r q : Tallied) → r ≡ tallyOf c run → q ≡ tallyOf c run → r ≡ q
 tally-unique c run r q = one-answer
+
+pub weigh-unique : (c : Chart) (weights : List ℕ) (r q : Weighed) → r ≡ weighOf c weights → q ≡ weighOf c weights → r ≡ q
+weigh-unique c weights r q = one-answer
+
+pub call-at-unique : (s : List ℕ) (at : ℕ) (r q : Call) → (r ≡ callAt s at) × (numberOf r ≡ traceNumber s at) → (q ≡ callAt s at) × (numberOf q ≡ traceNumber s at) → r ≡ q
+call-at-unique s at r q e f = one-answer (e .0) (f .0)
+
+pub opening-unique : (r q : Standing) → r ≡ opening → q ≡ opening → r ≡ q
+opening-unique r q = one-answer
+
+-- the answer, and the lent buffer with it
+pub print-next-unique : (code : ℕ) (c : Chart) (s : List ℕ) (st : Standing) (line f g : List ℕ) (r q : Printed)
+    → (r ≡ printedOf (length line) code c s st) × (f ≡ lineAfter code c s st line) × (r .length ≤ length line)
+    → (q ≡ printedOf (length line) code c s st) × (g ≡ lineAfter code c s st line) × (q .length ≤ length line) → (r ≡ q) × (f ≡ g)
+print-next-unique code c s st line f g r q e h = (one-answer (e .0) (h .0), one-answer (e .1) (h .1))

@@ -1,1 +1,5 @@
+pub mod Lines
+pub mod Printing
 pub mod Tallying
+pub mod Tracing
+pub mod Weighing

@@ -1,0 +1,60 @@
+-- The number, the word with the code, and the line end.
+use borrow.Author.Needs.{needs}
+use Prim.Native.Nat.{_≤_}
+use mathlib.Core.List.{_++_}
+use native.Mathlib.Omega.{arith}
+use denote.Ref.{now}
+use lib.ListN.{length}
+use Rattle.report.specs.Lines.{text, decimal, refusedLine}
+use Rattle.report.proofs.lines.Laws.{put-three, decimal-short}
+use Rattle.report.proofs.lines.refused_line.Statement.{statement}
+use Rattle.report.proofs.lines.refused_line.Tie as tie
+
+-- where the number and the code end
+number : (c : tie.After-put-decimal) → (c .put-decimal .result ≤ 20) × (84 ≤ length (c .put-decimal .last .0))
+number c = omega (arith, c .put-decimal .ensures .1, c .put-decimal .kept .0, decimal-short 20 (c .before .before .before .args .number), c .before .before .before .pre)
+
+named : (c : tie.After-put-named) → (c .put-named .result ≤ 49) × (84 ≤ length (c .put-named .last .0))
+named c = omega (arith, c .put-named .ensures .1, c .put-named .kept .0, decimal-short 20 (c .before .before .before .before .before .before .before .before .args .code), number (c .before .before .before .before .before))
+
+put-decimal-requires : tie.Need-put-decimal-requires
+put-decimal-requires c κs = search needs
+
+slice-aggregate-put-named : tie.Need-slice-aggregate-put-named
+slice-aggregate-put-named c = search needs
+
+put-named-requires : tie.Need-put-named-requires
+put-named-requires c κs = omega (arith, number (c .before .before .before .before))
+
+slice-aggregate-put : tie.Need-slice-aggregate-put
+slice-aggregate-put c = search needs
+
+put-requires : tie.Need-put-requires
+put-requires c κs = omega (arith, named (c .before .before .before .before))
+
+same-length : tie.Need-same-length
+same-length c = search needs
+
+returns : tie.Need-returns
+unfolding refusedLine
+returns c =
+    let p = c .before .before in
+    let n = c .before .before .before .before .before .before .before in
+    let d = c .before .before .before .before .before .before .before .before .before .before .before .before in
+    let s = c .before .before .before .before .before .before .before .before .before .before .before .before .before .before .before in
+    let h = named n in (
+      put-three (now (s .args .line)) 0 (decimal (s .args .number)) (text " refused " ++ decimal (s .args .code)) (text "\n") (d .put-decimal .ensures) (n .put-named .ensures) (p .put .ensures) (omega (arith, s .pre)),
+      omega (arith, p .put .ensures .1),
+    )
+
+pub refused-line-spec : {M : Type 1} → statement M
+refused-line-spec =
+    tie.close
+    (tie.spec
+    put-decimal-requires
+    slice-aggregate-put-named
+    put-named-requires
+    slice-aggregate-put
+    put-requires
+    same-length
+    returns)

@@ -1,0 +1,118 @@
+-- Each step's line and standing, branch by branch, and that the steps come nearer to the end.
+use Prim.Native.Nat.{ℕ, _+_, _-_, _≤_, _<_}
+use mathlib.Core.Bool.{Bool, true, false, cond}
+use mathlib.Core.List.{List}
+use mathlib.Core.Path.{_≡_, refl, ap, _∙_}
+use native.Mathlib.Nat.{zero-add}
+use native.Mathlib.Omega.{arith}
+use lib.ListN.{length}
+use lib.Dec.{eqb}
+use borrow.Author.Tests.{le-leb, lt-leb, ne-eqb}
+use Rattle.reader.specs.declared.chart.Chart.{Chart}
+use Rattle.cycle.specs.Cycling.{startOf, cycleOf}
+use Rattle.cycle.specs.declared.run.Run.{Run}
+use Rattle.cycle.specs.declared.cycling.Cycled.{Cycled}
+use Rattle.report.specs.Lines.{Put, chartLine, traceLine}
+use Rattle.report.specs.Tallying.{tallyOf}
+use Rattle.report.specs.Tracing.{callAt}
+use Rattle.report.specs.Printing.{lineOf, closingLine, numberAt, stepped, unmoved, lineFor, standingFor, Prints, nextLine, nextStanding, printedOf, lineAfter}
+use Rattle.report.specs.declared.tallying.Tallied.{Tallied}
+use Rattle.report.specs.declared.tracing.Call.{Call}
+use Rattle.report.specs.declared.tracing.Call.the-variants.{Start, Cycle, End, Refused}
+use Rattle.report.specs.declared.printing.Standing.{Standing}
+use Rattle.report.specs.declared.printing.Printed.{Printed}
+use Rattle.report.proofs.tracing.Laws.{start-there, cycle-there}
+
+-- ---- the steps end: how much is left falls with each
+
+unfoldable pub remaining : List ℕ → Standing → ℕ
+remaining s st = cond (st .done) 0 (length s - st .at + 1)
+
+call-falls : (c : Chart) (s : List ℕ) (at : ℕ) (run : Run) (x : Call) → callAt s at ≡ x → remaining s (standingFor c at run x) < length s - at + 1
+unfolding remaining
+call-falls c s at run (Start clock) e = let h = start-there s at clock e in omega arith
+call-falls c s at run (Cycle clock inputs) e = let h = cycle-there s at clock inputs e in omega arith
+call-falls c s at run End e = omega arith
+call-falls c s at run Refused e = omega arith
+
+falls : (code : ℕ) (c : Chart) (s : List ℕ) (st : Standing) → st .done ≡ false → remaining s (nextStanding code c s st) < remaining s st
+unfolding remaining nextStanding
+falls code c s st e = go (eqb code 0)
+  where
+    go : (b : Bool)
+        → remaining s (cond (st .done) st (cond b (standingFor c (st .at) (st .run) (callAt s (st .at))) (record { done = true; at = st .at; run = st .run }))) < cond (st .done) 0 (length s - st .at + 1)
+    go true = rw e (call-falls c s (st .at) (st .run) (callAt s (st .at)) refl)
+    go false = rw e (omega arith)
+
+-- the same of the answer, where the lent buffer has room
+pub moves : (lent code : ℕ) (c : Chart) (s : List ℕ) (st : Standing) (r : Printed) → 84 ≤ lent → r ≡ printedOf lent code c s st → st .done ≡ false → remaining s (r .standing) < remaining s st
+moves lent code c s st r l h e =
+    let q : r .standing ≡ nextStanding code c s st = ap (λ (p : Printed). p .standing) h ∙ rw (le-leb 84 lent l) in
+    rw q (falls code c s st e)
+
+-- ---- one step, branch by branch
+
+put-prints : (e t now : List ℕ) (n : ℕ) (done : Bool) (at : ℕ) (run : Run) (r : Printed) → Put e 0 t now n → n ≤ 84 → r ≡ stepped n done at run
+    → Prints e t (record { done = done; at = at; run = run }) now r
+put-prints e t now n done at run r p l q =
+    let h : n ≡ length t = p .1 ∙ zero-add (length t) in
+    record { line = p .0; answer = q ∙ ap (λ (m : ℕ). stepped m done at run) h; short = omega arith }
+
+module _ (c : Chart) (s : List ℕ) (at : ℕ) (run : Run) (e now : List ℕ) (number n : ℕ) (r : Printed) (num : number ≡ numberAt at) (l : n ≤ 84) where
+  abbrev Printing : Type 0
+  Printing = Prints e (lineFor c at run (callAt s at)) (standingFor c at run (callAt s at)) now r
+
+  pub start-prints : (clock lent : ℕ) (o : Cycled) → callAt s at ≡ Start clock → lent ≡ 32 → o ≡ startOf c clock lent
+      → Put e 0 (lineOf number o) now n → r ≡ stepped n false (at + 8) (o .run) → Printing
+  start-prints clock lent o x m h p q =
+      let k : o ≡ startOf c clock 32 = h ∙ ap (startOf c clock) m in
+      rw x (put-prints e _ now n false (at + 8) (startOf c clock 32 .run) r (rw (← num, ← k) p) l (q ∙ ap (λ (o : Cycled). stepped n false (at + 8) (o .run)) k))
+
+  pub cycle-prints : (clock inputs lent : ℕ) (o : Cycled) → callAt s at ≡ Cycle clock inputs → lent ≡ 32 → o ≡ cycleOf c run clock inputs lent
+      → Put e 0 (lineOf number o) now n → r ≡ stepped n false (at + 12) (o .run) → Printing
+  cycle-prints clock inputs lent o x m h p q =
+      let k : o ≡ cycleOf c run clock inputs 32 = h ∙ ap (cycleOf c run clock inputs) m in
+      rw x (put-prints e _ now n false (at + 12) (cycleOf c run clock inputs 32 .run) r (rw (← num, ← k) p) l (q ∙ ap (λ (o : Cycled). stepped n false (at + 12) (o .run)) k))
+
+  pub tally-prints : (t : Tallied) → callAt s at ≡ End → t ≡ tallyOf c run → Put e 0 (closingLine number t) now n → r ≡ stepped n true at run → Printing
+  tally-prints t x h p q = rw x (put-prints e _ now n true at run r (rw (← num, ← h) p) l q)
+
+  pub trace-prints : callAt s at ≡ Refused → Put e 0 traceLine now n → r ≡ stepped n true at run → Printing
+  trace-prints x p q = rw x (put-prints e traceLine now n true at run r p l q)
+
+-- ---- the next line, for every argument
+
+module _ (code : ℕ) (c : Chart) (s : List ℕ) (st : Standing) (line now : List ℕ) (r : Printed) where
+  pub record Answers : Type 0 where
+    pub answer : r ≡ printedOf (length line) code c s st
+    pub content : now ≡ lineAfter code c s st line
+    pub within : r .length ≤ length line
+
+  pub too-small : length line < 84 → now ≡ line → r ≡ unmoved st → Answers
+  too-small l e h = record {
+    answer = h ∙ rw (lt-leb 84 (length line) l);
+    content = e ∙ rw (lt-leb 84 (length line) l);
+    within = rw h (omega arith);
+  }
+
+  -- what is printed, where there is room
+  pub has-room : 84 ≤ length line → Prints line (nextLine code c s st) (nextStanding code c s st) now r → Answers
+  has-room l p = record {
+    answer = p .answer ∙ rw (le-leb 84 (length line) l);
+    content = p .line ∙ rw (le-leb 84 (length line) l);
+    within = rw (p .answer) (let h = p .short in omega arith);
+  }
+
+  pub is-done : 84 ≤ length line → st .done ≡ true → now ≡ line → r ≡ unmoved st → Answers
+  unfolding nextLine nextStanding
+  is-done l d e h = has-room l (rw d (record { line = e; answer = rw d at h; short = omega arith }))
+
+  pub chart-prints : (n : ℕ) → 84 ≤ length line → st .done ≡ false → (code ≡ 0 → ⊥) → Put line 0 (chartLine code) now n → n ≤ 84 → r ≡ stepped n true (st .at) (st .run) → Answers
+  unfolding nextLine nextStanding
+  chart-prints n l d z p m q =
+      has-room l (rw (d, ne-eqb code 0 z) (put-prints line (chartLine code) now n true (st .at) (st .run) r p m q))
+
+  pub call-prints : 84 ≤ length line → st .done ≡ false → code ≡ 0
+      → Prints line (lineFor c (st .at) (st .run) (callAt s (st .at))) (standingFor c (st .at) (st .run) (callAt s (st .at))) now r → Answers
+  unfolding nextLine nextStanding
+  call-prints l d z p = has-room l (rw (d, z) p)

@@ -1,0 +1,62 @@
+-- "The printed run": the bytes of each line. "Lower-case hex; each line ends in byte 10."
+use Prim.Native.Nat.{ℕ, zero, suc, _+_, _/_, _%_}
+use Prim.Native.Char.{code}
+use Prim.Native.String.{String, [] as nothing, _∷_ as _then_}
+use mathlib.Core.Bool.{cond}
+use mathlib.Core.List.{List, [], _∷_, _++_}
+use mathlib.Core.Path.{_≡_}
+use lib.ListN.{length, take, drop}
+use lib.Dec.{ltb}
+
+-- the bytes of a text
+abbrev pub text : String → List ℕ
+text nothing = []
+text (c then s) = code c ∷ text s
+
+-- the byte of a digit: 0 to 9, then a to f
+abbrev pub digit : ℕ → ℕ
+digit d = cond (ltb d 10) (48 + d) (87 + d)
+
+-- the last k hex digits of n
+unfoldable pub hex : ℕ → ℕ → List ℕ
+hex zero n = []
+hex (suc k) n = hex k (n / 16) ++ (digit (n % 16) ∷ [])
+
+-- a number below ten is its digit, and a larger one is its tenth and then its last digit; at most so many digits
+unfoldable pub decimalFrom : ℕ → ℕ → List ℕ
+decimalFrom zero n = []
+decimalFrom (suc more) n = cond (ltb n 10) (digit n ∷ []) (decimalFrom more (n / 10) ++ (digit (n % 10) ∷ []))
+
+-- twenty digits hold every 64-bit number
+abbrev pub decimal : ℕ → List ℕ
+decimal n = decimalFrom 20 n
+
+-- the bytes e with t written over them from a place on
+abbrev pub over : List ℕ → ℕ → List ℕ → List ℕ
+over e at t = take at e ++ (t ++ drop (length t) (drop at e))
+
+-- what each function that writes t into a buffer e leaves there, and the place behind t that it answers
+abbrev pub Put : List ℕ → ℕ → List ℕ → List ℕ → ℕ → Type 0
+Put e at t now end = (now ≡ over e at t) × (end ≡ at + length t)
+
+-- "Per accepted call it prints its number (decimal), active steps (16 hex digits), activity (8), taken (16), with single spaces."
+unfoldable pub acceptedLine : ℕ → ℕ → ℕ → ℕ → List ℕ
+acceptedLine number active activity taken =
+    decimal number ++ (text " " ++ hex 16 active) ++ (text " " ++ hex 8 activity) ++ (text " " ++ hex 16 taken) ++ text "\n"
+
+-- "A refused cycle prints its number, `refused` and the code"
+unfoldable pub refusedLine : ℕ → ℕ → List ℕ
+refusedLine number code = decimal number ++ (text " refused " ++ decimal code) ++ text "\n"
+
+-- "A bad chart prints `refused chart` and the code"
+unfoldable pub chartLine : ℕ → List ℕ
+chartLine code = text "refused chart " ++ decimal code ++ text "\n"
+
+-- "a bad trace record `refused trace 16`"
+unfoldable pub traceLine : List ℕ
+traceLine = text "refused trace 16\n"
+
+-- "one line of `passed`, `failed` and `notrun`, each followed by its count in decimal, with single spaces"
+unfoldable pub tallyLine : ℕ → ℕ → ℕ → List ℕ
+tallyLine passed failed notrun =
+    (text "passed " ++ decimal passed) ++ (text " failed " ++ decimal failed) ++ (text " notrun " ++ decimal notrun) ++ text "\n"
