@@ -1,7 +1,7 @@
 #!/usr/bin/env python3
 """The stored cases of the program read_charts: its input, and the output that document 01 asks for.
 
-  tests/read_charts.py           write crates/read_charts/stdin and stdout, and samples/chart_a.bin
+  tests/read_charts.py           write crates/read_charts/stdin and stdout
   tests/read_charts.py --check   say whether they are what this file says
 
 Each case is a file and its line: number, place, then the counts of steps, actions, transitions, blocks and cases.
@@ -211,7 +211,6 @@ for q in (L, D, SD, DS, SL):
 FILES = {
     "crates/read_charts/stdin": b"".join(struct.pack("<H", len(f)) + f for _, f, _ in CASES),
     "crates/read_charts/stdout": "".join(line + "\n" for _, _, line in CASES).encode(),
-    "samples/chart_a.bin": CHART_A,
 }
 
 

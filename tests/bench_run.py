@@ -1,0 +1,180 @@
+#!/usr/bin/env python3
+"""The program bench_run, run on charts and traces and compared with what document 01 says it prints.
+
+  tests/bench_run.py           write what `rt check` runs it on: crates/bench_run/stdin, stdout and data/chart.bin
+  tests/bench_run.py --check   say whether they are what this file says
+  tests/bench_run.py --run     run the built program on every case
+
+Short outputs are written out by hand. The long ones come from the plain model of start and cycle in run_cycles.py; nothing here
+gets an expected line from the engine.
+"""
+import struct
+import subprocess
+import sys
+import tempfile
+from pathlib import Path
+
+sys.dont_write_bytecode = True
+import run_cycles as model  # noqa: E402
+from read_charts import CHART_A, END, GO, L, N, ONE, ROOT, TWO, action, block, case, record, step, store, transition  # noqa: E402
+
+
+def start(clock):
+    return record(17, struct.pack("<I", clock))
+
+
+def cycle(clock, inputs=0):
+    return record(16, struct.pack("<II", clock, inputs))
+
+
+TRACE_A = start(1000) + cycle(1010, 1) + cycle(1510, 2)
+LINES_A = [
+    "0 0000000000000001 00000000 0000000000000000",
+    "1 0000000000000002 00000003 0000000000000001",
+    "2 0000000000000001 00000000 0000000000000002",
+]
+NO_STEP, BAD_TRACE = "0" * 16, "refused trace 16"
+BEGUN = "0 0000000000000001 00000000 " + NO_STEP
+
+# name, chart file (None: there is none), trace, lines
+CASES = [
+    ("chart A", CHART_A, TRACE_A, LINES_A + ["passed 1 failed 0 notrun 0"]),
+    ("chart A, last clock 1509", CHART_A, start(1000) + cycle(1010, 1) + cycle(1509, 2),
+     LINES_A[:2] + ["2 0000000000000002 00000003 " + NO_STEP, "passed 0 failed 0 notrun 1"]),
+    ("a case that fails", CHART_A[:-11] + case(1, 1, 0) + END, TRACE_A, LINES_A + ["passed 0 failed 1 notrun 0"]),
+    ("the empty trace", CHART_A, b"", ["passed 0 failed 0 notrun 1"]),
+    ("the empty trace, 64 cases", ONE + case(0, 0, 0) * 64 + END, b"", ["passed 0 failed 0 notrun 64"]),
+    ("no case", ONE + END, start(0), [BEGUN, "passed 0 failed 0 notrun 0"]),
+    ("the start alone", CHART_A, start(4294967295), [BEGUN, "passed 0 failed 0 notrun 1"]),
+    # the chart
+    ("no chart file", None, TRACE_A, ["refused chart 1"]),
+    ("an empty chart file", b"", TRACE_A, ["refused chart 1"]),
+    ("a bad chart and an empty trace", b"", b"", ["refused chart 1"]),
+    ("a bad chart and a bad trace", b"", b"\0", ["refused chart 1"]),
+    ("1, a cut body", CHART_A[:-5], TRACE_A, ["refused chart 1"]),
+    ("2, kind 6", ONE + record(6, b"\2") + END, TRACE_A, ["refused chart 2"]),
+    ("3, a step of two bytes", record(1, b"\1\0") + END, TRACE_A, ["refused chart 3"]),
+    ("4, 65 steps", step(1) * 65 + END, TRACE_A, ["refused chart 4"]),
+    ("5, output 32", ONE + action(32) + END, TRACE_A, ["refused chart 5"]),
+    ("6, a step both source and target", TWO + transition([0], [0, 1]) + END, TRACE_A, ["refused chart 6"]),
+    ("7, a signal in on and off", TWO + transition([0], [1], on=[3], off=[3]) + END, TRACE_A, ["refused chart 7"]),
+    ("8, two timed blocks", ONE + action(0) + block(0, 0, L) * 2 + END, TRACE_A, ["refused chart 8"]),
+    ("9, no initial step", step(0) + END, TRACE_A, ["refused chart 9"]),
+    ("10, a byte more", CHART_A + b"\0", TRACE_A, ["refused chart 10"]),
+    ("10, a chart file of 70,000 bytes", CHART_A.ljust(70_000, b"\0"), TRACE_A, ["refused chart 10"]),
+    # the trace: "cut, unknown, of wrong length .., or a start record is not exactly the first"
+    ("a start's head cut", CHART_A, start(1000)[:3], [BAD_TRACE]),
+    ("a start's body cut", CHART_A, start(1000)[:7], [BAD_TRACE]),
+    ("a start's head alone", CHART_A, start(1000)[:4], [BAD_TRACE]),
+    ("one byte", CHART_A, b"\4", [BAD_TRACE]),
+    ("a start of three bytes", CHART_A, record(17, b"\0" * 3) + cycle(0), [BAD_TRACE]),
+    ("a start of five bytes", CHART_A, record(17, b"\0" * 5) + cycle(0), [BAD_TRACE]),
+    ("a start of eight bytes", CHART_A, record(17, b"\0" * 8) + cycle(0), [BAD_TRACE]),
+    ("a cycle first", CHART_A, cycle(1000) + start(1000), [BAD_TRACE]),
+    ("a second start", CHART_A, start(1000) * 2 + cycle(1010, 1), [BEGUN, BAD_TRACE]),
+    ("a start after a cycle", CHART_A, TRACE_A + start(1510), LINES_A + [BAD_TRACE]),
+    ("kind 15", CHART_A, record(15, b"\0" * 4), [BAD_TRACE]),
+    ("kind 0 ends no trace", CHART_A, TRACE_A + END, LINES_A + [BAD_TRACE]),
+    ("kind 18 behind the start", CHART_A, start(1000) + record(18, b"\0" * 8), [BEGUN, BAD_TRACE]),
+    ("kind 272, whose lesser byte is 16", CHART_A, start(1000) + record(272, b"\0" * 8), [BEGUN, BAD_TRACE]),
+    ("a cycle of seven bytes", CHART_A, start(1000) + record(16, b"\0" * 7), [BEGUN, BAD_TRACE]),
+    ("a cycle of nine bytes", CHART_A, start(1000) + record(16, b"\0" * 9), [BEGUN, BAD_TRACE]),
+    ("a cycle of four bytes", CHART_A, start(1000) + record(16, b"\0" * 4), [BEGUN, BAD_TRACE]),
+    ("a length of 264, whose lesser byte is 8", CHART_A, start(1000) + record(16, b"\0" * 264), [BEGUN, BAD_TRACE]),
+    ("a cycle's head cut", CHART_A, TRACE_A + cycle(1600)[:3], LINES_A + [BAD_TRACE]),
+    ("a cycle's body cut", CHART_A, TRACE_A + cycle(1600)[:11], LINES_A + [BAD_TRACE]),
+    # "A refused cycle prints its number, `refused` and the code, and the run goes on"
+    ("refused cycles in the middle", CHART_A,
+     start(1000) + cycle(999, 1) + cycle(1010, 1) + cycle(61_011, 2) + cycle(1009, 2) + cycle(1510, 2),
+     [LINES_A[0], "1 refused 11", "2" + LINES_A[1][1:], "3 refused 11", "4 refused 11", "5" + LINES_A[2][1:],
+      "passed 1 failed 0 notrun 0"]),
+    ("all cycles refused", CHART_A, start(1000) + cycle(999) * 11,
+     [LINES_A[0]] + [f"{k} refused 11" for k in range(1, 12)] + ["passed 0 failed 0 notrun 1"]),
+    # every hex digit, in steps, activity and transitions taken; the letters are lower case
+    ("each hex digit", b"".join(step(0x0123456789ABCDEF >> k & 1) for k in range(64)) + action(0) * 32
+     + b"".join(block(next(s for s in range(64) if 0x0123456789ABCDEF >> s & 1), k, N) for k in range(32) if 0xFEDCBA98 >> k & 1)
+     + END, start(7), ["0 0123456789abcdef fedcba98 " + NO_STEP, "passed 0 failed 0 notrun 0"]),
+    ("all steps and actions", step(1) * 64 + action(0) * 32 + b"".join(block(63, k, N) for k in range(32)) + END, start(7),
+     ["0 ffffffffffffffff ffffffff " + NO_STEP, "passed 0 failed 0 notrun 0"]),
+    ("32 transitions taken", b"".join(step(k < 32) for k in range(64))
+     + b"".join(transition([k // 2], [32 + k // 2], on=[k % 2]) for k in range(64)) + END, start(7) + cycle(7, 2),
+     ["0 00000000ffffffff 00000000 " + NO_STEP, "1 ffffffff00000000 00000000 aaaaaaaaaaaaaaaa", "passed 0 failed 0 notrun 0"]),
+    # step 0 is left with input 1 set and input 2 not: 10 cases pass, 12 fail, and 42 on step 1 do not run
+    ("two digits in each count", TWO + GO + case(0, 1, 1) * 10 + case(0, 2, 1) * 12 + case(1, 0, 0) * 42 + END, start(1) + cycle(2, 2),
+     [BEGUN, "1 0000000000000002 00000000 0000000000000001", "passed 10 failed 12 notrun 42"]),
+]
+
+
+def answered(data, records):
+    """The lines of calls by the model, and the tally's; records are a start's clock and then cycles' clocks and inputs."""
+    chart = model.parse(data)
+    model.check_valid(chart)
+    lines, answer = [], None
+    for number, (clock, inputs) in enumerate(records):
+        if answer is None:
+            answer = model.start(chart, clock)
+        else:
+            answer = model.cycle(chart, answer.run, answer.outputs, clock, model.numbers(inputs))
+        if answer.code:
+            lines.append(f"{number} refused {answer.code}")
+        else:
+            active, activity, taken = map(model.members, (answer.run.active, answer.run.activity, answer.taken))
+            lines.append(f"{number} {active:016x} {activity:08x} {taken:016x}")
+    bad, good = answer.run.bad, answer.run.good - answer.run.bad
+    return lines, f"passed {len(good)} failed {len(bad)} notrun {len(chart.cases) - len(good) - len(bad)}"
+
+
+# "begins at byte 65,528 or later": a start and 5,460 cycles end there. Chart A swings every 250 ms; its wait is 500.
+LONG = [(1000, 0)] + [(1000 + 250 * k, k % 4) for k in range(1, 5461)]
+FULL = start(1000) + b"".join(cycle(*call) for call in LONG[1:])
+LONG_LINES, LONG_TALLY = answered(CHART_A, LONG)
+assert len(FULL) == 65_528 and len(LONG_LINES) == 5461 and LONG_LINES[-1].startswith("5460 ")
+assert answered(CHART_A, [(1000, 0), (1010, 1), (1510, 2)]) == (LINES_A, "passed 1 failed 0 notrun 0")
+CASES += [
+    ("a trace of exactly 65,528 bytes", CHART_A, FULL, LONG_LINES + [LONG_TALLY]),
+    ("65,528 bytes and one record more", CHART_A, FULL + cycle(LONG[-1][0]), LONG_LINES + [BAD_TRACE]),
+    ("65,528 bytes and one byte more", CHART_A, FULL + b"\0", LONG_LINES + [BAD_TRACE]),
+    ("65,528 bytes and 240,000 more", CHART_A, FULL + cycle(LONG[-1][0]) * 20_000, LONG_LINES + [BAD_TRACE]),
+    ("one record fewer", CHART_A, FULL[:-12], LONG_LINES[:-1] + [LONG_TALLY]),
+    ("the last record cut", CHART_A, FULL[:-1], LONG_LINES[:-1] + [BAD_TRACE]),
+]
+
+
+def run(folder, trace, output=subprocess.PIPE):
+    command = [ROOT / "tools" / "run", "bench_run"]
+    return subprocess.run(command, cwd=folder, input=trace, stdout=output, stderr=subprocess.PIPE, timeout=60, check=False)
+
+
+def run_case(name, chart, trace, lines):
+    with tempfile.TemporaryDirectory() as folder:
+        if chart is not None:
+            (Path(folder) / "chart.bin").write_bytes(chart)
+        done = run(folder, trace)
+    expected = "".join(line + "\n" for line in lines).encode()
+    if done.stdout != expected or done.stderr or done.returncode != 0:
+        sys.exit(f"bench_run, {name}: status {done.returncode}, printed {done.stdout[-400:]!r} {done.stderr!r}, expected {expected[-400:]!r}")
+
+
+def run_odd():
+    """A chart.bin that is a folder can't be read and counts as empty; a write that fails ends the run, in time."""
+    with tempfile.TemporaryDirectory() as folder:
+        (Path(folder) / "chart.bin").mkdir()
+        assert run(folder, TRACE_A).stdout == b"refused chart 1\n", "a folder chart.bin"
+    with tempfile.TemporaryDirectory() as folder, open("/dev/full", "wb") as full:
+        (Path(folder) / "chart.bin").write_bytes(CHART_A)
+        assert run(folder, FULL, full).returncode == 0, "a failed write"
+
+
+if __name__ == "__main__":
+    if "--run" in sys.argv[1:]:
+        for shown in CASES:
+            run_case(*shown)
+        run_odd()
+        print(f"bench_run: {len(CASES) + 2} runs")
+    else:
+        store({
+            "crates/bench_run/data/chart.bin": CHART_A,
+            "crates/bench_run/stdin": TRACE_A,
+            "crates/bench_run/stdout": "".join(text + "\n" for text in CASES[0][3]).encode(),
+        }, "tests/bench_run.py")
+        print("bench_run: 1 stored run")
