@@ -1,0 +1,134 @@
+-- The starred "Bench examples" of document 01: one table, each row computed from the definitions, from the chart or from the file's bytes.
+use Prim.{tt}
+use Prim.Native.Nat.{ℕ}
+use mathlib.Core.Bool.{Bool, true, false}
+use mathlib.Core.List.{List, [], _∷_}
+use mathlib.Core.Path.{_≡_, refl}
+use native.Mathlib.Omega.{arith}
+use borrow.Author.Tests.{le-ltb}
+use lib.Dec.{lit<}
+use lib.IntN.{pos}
+use lib.ListN.{getD, replicate}
+use Rattle.sets.specs.Loops.{all, some, summed, firstCode, tableFrom, turns}
+use Rattle.sets.specs.Sets.{has, collect}
+use Rattle.reader.specs.Chart.{noChart, withStep, withAction, withTransition, withBlock}
+use Rattle.reader.specs.Framing.{recordNumber}
+use Rattle.reader.specs.Fields.{L, D, SD, SL, transitionCode}
+use Rattle.reader.specs.Bodies.{bodyAt}
+use Rattle.reader.specs.Held.{stepsCode, actionsCode, transitionsCode, blocksCode, casesCode, someInitial, timedFor, timedTwice, heldCode}
+use Rattle.reader.specs.Reading.{readFrom, readChart}
+use Rattle.reader.specs.declared.chart.Chart.{Chart}
+use Rattle.reader.proofs.reading.Examples.{chartA}
+use Rattle.cycle.specs.Time.{elapsed}
+use Rattle.cycle.specs.Choosing.{chosen}
+use Rattle.cycle.specs.Moving.{marksOf, initialSet}
+use Rattle.cycle.specs.Acting.{request, ripens, asked, acted}
+use Rattle.cycle.specs.Outputs.{first, outputsOf}
+use Rattle.cycle.specs.Cycling.{startOf, cycleOf, outputsAfter}
+use Rattle.cycle.specs.declared.run.Run.{Run}
+use Rattle.cycle.specs.declared.cycling.Cycled.{Cycled}
+use Rattle.report.specs.Tallying.{tallyOf}
+use Rattle.report.specs.Weighing.{weightIn, unbalanced, weighOf}
+use Rattle.claims.specs.Runs.{Call, after, begun}
+use Rattle.claims.specs.Weights.{weighed-apart}
+
+-- a start and a cycle with 32 outputs lent
+abbrev began : Chart → ℕ → Run
+began c clock = startOf c clock 32 .run
+
+abbrev then : Chart → Run → ℕ → ℕ → Cycled
+then c r clock inputs = cycleOf c r clock inputs 32
+
+-- chart A as it is read from its 152 bytes, started at 1000, its call 1 at 1010 with input 0, and a last call at 1509 with input 1
+abbrev a : Chart
+a = readChart chartA .chart
+
+abbrev a1 : Cycled
+a1 = then a (began a 1000) 1010 1
+
+abbrev a2 : Cycled
+a2 = then a (a1 .run) 1509 2
+
+-- one initial step
+abbrev alone : Chart
+alone = withStep noChart 1
+
+-- one initial step with a block of one action
+abbrev timed : ℕ → ℕ → Chart
+timed qualifier duration = withBlock (withAction alone 0 (pos 1)) 0 0 qualifier duration
+
+-- steps 0 and 1 initial, 0→2 and 1→2, no signal asked
+abbrev rivals : Chart
+rivals = withTransition (withTransition (withStep (withStep (withStep noChart 1) 1) 0) 1 4 0 0 0) 2 4 0 0 0
+
+abbrev once : Cycled
+once = then rivals (began rivals 0) 10 0
+
+-- fork 0→{1, 2}, step 0 initial
+abbrev pub fork : Chart
+fork = withTransition (withStep (withStep (withStep noChart 1) 0) 0) 1 6 0 0 0
+
+pub record Starred : Type 0 where
+  -- "Chart A, last clock 1509: no transition, activity 3, case not run."
+  pub none-taken : a2 .taken ≡ 0
+  pub three-active : a2 .run .activity ≡ 3
+  pub not-run : tallyOf a (a2 .run) ≡ record { code = 0; passed = 0; failed = 0; notrun = 1 }
+  -- "Chart A, call 1: output 0 is 120, by table order."
+  pub first-output : getD (outputsAfter a a1 (replicate 32 (pos 9))) 0 (pos 9) ≡ pos 120
+  -- "Last clock 4,294,967,000, new 200: elapsed 496."
+  pub over-the-turn : elapsed 4294967000 200 ≡ 496
+  -- "Elapsed 60,000 accepted; 60,001 refused 11; clock one back refused 11."
+  pub minute : then alone (began alone 5000) 65000 0 .code ≡ 0
+  pub more : then alone (began alone 5000) 65001 0 .code ≡ 11
+  pub back : then alone (began alone 5000) 4999 0 .code ≡ 11
+  -- "L 100: counter 99 active, 100 not. D 100: 99 not, 100 active."
+  pub limited-before : then (timed L 100) (began (timed L 100) 0) 99 0 .run .activity ≡ 1
+  pub limited-at : then (timed L 100) (began (timed L 100) 0) 100 0 .run .activity ≡ 0
+  pub delayed-before : then (timed D 100) (began (timed D 100) 0) 99 0 .run .activity ≡ 0
+  pub delayed-at : then (timed D 100) (began (timed D 100) 0) 100 0 .run .activity ≡ 1
+  -- "SD 0 is active when latched; SL 0 never."
+  pub stored-delayed : began (timed SD 0) 0 .activity ≡ 1
+  pub stored-limited : began (timed SL 0) 0 .activity ≡ 0
+  pub stored-limited-ever : (on entered left : Bool) (count time : ℕ) → ripens (request SL 0 on entered left count time) ≡ false
+  -- "Steps 0 and 1 initial, 0→2 and 1→2 both true: only the first is taken, and the next cycle takes none."
+  pub first-taken : once .taken ≡ 1
+  pub next-none : then rivals (once .run) 20 0 .taken ≡ 0
+  -- "Fork 0→{1,2}, weights 2,1,1, 0 initial: total 2, so 0 and 1 are never together; weights 2,1,2 refused 14, transition 0."
+  pub fork-total : weighOf fork (2 ∷ 1 ∷ 1 ∷ []) ≡ record { code = 0; transition = 0; total = 2 }
+  pub fork-apart : (clock : ℕ) (xs : List Call) → has (after fork (begun fork clock 32) xs .active) 0 ≡ true → has (after fork (begun fork clock 32) xs .active) 1 ≡ true → ⊥
+  pub fork-refused : weighOf fork (2 ∷ 1 ∷ 2 ∷ []) ≡ record { code = 14; transition = 0; total = 0 }
+
+pub starred : Starred
+unfolding chartA all some summed firstCode tableFrom turns collect recordNumber transitionCode bodyAt stepsCode actionsCode transitionsCode blocksCode casesCode someInitial timedFor timedTwice heldCode readFrom chosen marksOf initialSet asked acted first outputsOf weightIn unbalanced
+starred = record {
+  none-taken = refl;
+  three-active = refl;
+  not-run = refl;
+  first-output = refl;
+  over-the-turn = refl;
+  minute = refl;
+  more = refl;
+  back = refl;
+  limited-before = refl;
+  limited-at = refl;
+  delayed-before = refl;
+  delayed-at = refl;
+  stored-delayed = refl;
+  stored-limited = refl;
+  stored-limited-ever = λ on entered left count time. le-ltb time 0 (omega arith);
+  first-taken = refl;
+  next-none = refl;
+  fork-total = refl;
+  fork-apart = λ clock xs. weighed-apart fork (2 ∷ 1 ∷ 1 ∷ []) refl clock 32 refl xs 0 1 (lit< tt) (lit< tt) (λ e. omega arith) (lit< tt);
+  fork-refused = refl;
+}
+
+-- idle (initial), pressurising, venting, recording, recorded: docs/ASSESSOR.md weighs this chart by hand
+abbrev brake : Chart
+brake =
+    withTransition (withTransition (withTransition (withTransition
+    (withStep (withStep (withStep (withStep (withStep noChart 1) 0) 0) 0) 0) 1 10 0 0 0) 2 4 0 0 0) 8 16 0 0 0) 20 1 0 0 0
+
+pub brake-total : weighOf brake (3 ∷ 2 ∷ 2 ∷ 1 ∷ 1 ∷ []) ≡ record { code = 0; transition = 0; total = 3 }
+unfolding all some summed firstCode collect stepsCode actionsCode transitionsCode transitionCode blocksCode casesCode someInitial timedTwice heldCode initialSet weightIn unbalanced
+brake-total = refl

@@ -1,0 +1,71 @@
+-- What one answer does to the active steps: all that the ledger and the weights rely on.
+use Prim.Native.Nat.{ℕ, _+_, _≤_, _<_}
+use mathlib.Core.Bool.{Bool, true, false, cond}
+use mathlib.Core.Path.{_≡_, refl}
+use lib.Dec.{leb, eqb}
+use borrow.Author.Tests.{eqb-true, eqb-false}
+use Rattle.sets.specs.Sets.{has}
+use Rattle.sets.proofs.Loops.{else-zero}
+use Rattle.sets.proofs.Members.{has-zero}
+use Rattle.reader.specs.Fields.{unless}
+use Rattle.reader.specs.Held.{chartCode}
+use Rattle.reader.specs.declared.chart.Chart.{Chart}
+use Rattle.reader.proofs.held.Sound.{sound}
+use Rattle.cycle.specs.Run.{noRun}
+use Rattle.cycle.specs.Time.{elapsed, grownCounts}
+use Rattle.cycle.specs.Moving.{signalsOf, initialSet}
+use Rattle.cycle.specs.Cycling.{refused, startCode, cycleCode, started, startOf, choiceOf, cycled}
+use Rattle.cycle.specs.declared.run.Run.{Run}
+use Rattle.cycle.specs.declared.cycling.Cycled.{Cycled}
+use Rattle.claims.specs.Moves.{among, chosen-is, moved}
+use Rattle.claims.specs.Runs.{Call, answer, begun, one}
+
+-- an answer o to a call that was given the run r: accepted, each step is entered and left by the taken transitions as its activity
+-- changes; refused, the run is the one that was given; and what is taken is a transition of the chart, so that the history has it
+pub record Fair (c : Chart) (r : Run) (o : Cycled) : Type 0 where
+  pub accepted : o .code ≡ 0 → (k : ℕ) → k < 64
+      → among (c .targets) (c .transitions) (o .taken) k + one (has (r .active) k) ≡ among (c .sources) (c .transitions) (o .taken) k + one (has (o .run .active) k)
+  pub back : (o .code ≡ 0 → ⊥) → o .run ≡ r
+  pub existing : (t : ℕ) → c .transitions ≤ t → has (o .taken) t ≡ false
+
+-- a refusal: "a refused cycle [returns] the run it was given .. with no transition taken"
+fair-refused : (c : Chart) (r : Run) (code : ℕ) → (code ≡ 0 → ⊥) → Fair c r (refused code r)
+fair-refused c r code z = record { accepted = λ e. absurd (z e); back = λ e. refl; existing = λ t l. has-zero t }
+
+-- an accepted cycle moves as its chosen transitions say
+fair-cycled : (c : Chart) (r : Run) (clock inputs : ℕ) → c .transitions ≤ 64 → Fair c r (cycled c r clock inputs)
+fair-cycled c r clock inputs h =
+    let counts = grownCounts (r .counters) (r .active) (elapsed (r .clock) clock) in
+    let signals = signalsOf inputs (r .activity) in
+    let i = chosen-is (c .transitions) (c .sources) (c .targets) (c .on) (c .off) (c .wait) counts (r .active) signals h in
+    record {
+      accepted = λ e. moved (c .sources) (c .targets) (r .active) (c .transitions) (choiceOf c r counts signals) i;
+      back = λ z. absurd (z refl);
+      existing = i .new;
+    }
+
+-- every answer of the cycle is so, whatever the chart, the run and the call
+pub fair : (c : Chart) (r : Run) (x : Call) → Fair c r (answer c r x)
+fair c r x = go (eqb (cycleCode c r (x .clock) (x .lent)) 0) refl
+  where
+    go : (b : Bool) → eqb (cycleCode c r (x .clock) (x .lent)) 0 ≡ b
+        → Fair c r (cond b (cycled c r (x .clock) (x .inputs)) (refused (cycleCode c r (x .clock) (x .lent)) r))
+    go true e =
+        let a = else-zero (unless (leb 32 (x .lent)) 15) _ (eqb-true _ 0 e) in
+        fair-cycled c r (x .clock) (x .inputs) (sound c (else-zero (chartCode c) _ (a .1) .0) .limits .transitions)
+    go false e = fair-refused c r (cycleCode c r (x .clock) (x .lent)) (eqb-false _ 0 e)
+
+-- an accepted start makes the initial steps active, of a chart of at most 64 steps
+pub record Begins (c : Chart) (r : Run) : Type 0 where
+  pub few : c .steps ≤ 64
+  pub initial : r .active ≡ initialSet (c .steps) (c .initial)
+
+pub begins : (c : Chart) (clock lent : ℕ) → startOf c clock lent .code ≡ 0 → Begins c (begun c clock lent)
+begins c clock lent = go (eqb (startCode c lent) 0) refl
+  where
+    go : (b : Bool) → eqb (startCode c lent) 0 ≡ b → cond b (started c clock) (refused (startCode c lent) noRun) .code ≡ 0
+        → Begins c (cond b (started c clock) (refused (startCode c lent) noRun) .run)
+    go true e h =
+        let a = else-zero (unless (leb 32 lent) 15) (chartCode c) (eqb-true _ 0 e) in
+        record { few = sound c (a .1) .limits .steps; initial = refl }
+    go false e h = absurd (eqb-false _ 0 e h)

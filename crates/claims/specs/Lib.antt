@@ -1,0 +1,12 @@
+pub mod Answers
+pub mod Examples
+pub mod Fair
+pub mod Ledger
+pub mod Marks
+pub mod Moves
+pub mod Numbers
+pub mod Runs
+pub mod Sums
+pub mod Tally
+pub mod Unique
+pub mod Weights

@@ -1,0 +1,204 @@
+-- What a call does to a case's marks, and that the runs of calls from a start belong to their chart: laws for Tally.
+use Prim.Native.Nat.{ℕ, zero, suc, _+_, _<_}
+use mathlib.Core.Bool.{Bool, true, false, _&&_, _||_, not, cond}
+use mathlib.Core.List.{List, [], _∷_}
+use mathlib.Core.Path.{_≡_, refl, sym, ap, _∙_}
+use native.Mathlib.Nat.{add-zero}
+use native.Mathlib.Omega.{arith}
+use lib.ListN.{getD}
+use lib.Dec.{eqb, ltb, leb}
+use borrow.Author.Tests.{ltb-true, eqb-true, eqb-false, ne-eqb}
+use Rattle.sets.specs.Loops.{some, summed, counted}
+use Rattle.sets.specs.Sets.{has, union, collect}
+use Rattle.sets.proofs.Loops.{and-true, or-true, or-false, else-zero, first-zero}
+use Rattle.sets.proofs.Members.{has-zero, has-collect}
+use Rattle.sets.proofs.Below.{has-union}
+use Rattle.reader.specs.Fields.{unless, signalExists}
+use Rattle.reader.specs.Held.{limitsFit, stepsCode, actionsCode, transitionsCode, blocksCode, casesCode, caseFitsAt, heldCode, chartCode}
+use Rattle.reader.specs.declared.chart.Chart.{Chart}
+use Rattle.reader.proofs.held.Sound.{sound}
+use Rattle.cycle.specs.Run.{noRun}
+use Rattle.cycle.specs.Time.{elapsed, grownCounts}
+use Rattle.cycle.specs.Belongs.{belongs}
+use Rattle.cycle.specs.Moving.{signalsOf, asExpected, marksOf}
+use Rattle.cycle.specs.Cycling.{refused, startCode, cycleCode, started, startOf, choiceOf, cycled}
+use Rattle.cycle.specs.declared.run.Run.{Run}
+use Rattle.cycle.specs.declared.cycling.Cycled.{Cycled}
+use Rattle.cycle.proofs.cycling.Kept.{cycle-belongs, cycle-refused}
+use Rattle.claims.specs.Runs.{Call, answer, after, begun, one}
+use Rattle.claims.specs.Moves.{chosen-is}
+
+-- ---- the marks x and y of a case, in terms of how its step was left: a at all, g with the signal as expected, b with it otherwise
+
+-- the good mark alone is set if it was left, and each time (e) as expected
+pub only-good : {x y g b a e : Bool} → x ≡ g → y ≡ b → a ≡ (g || b) → e ≡ not b → (x && not y) ≡ (a && e)
+only-good {x} {y} {g} {b} p q s t = rw (p, q, s, t) (go g b)
+  where
+    go : (g b : Bool) → (g && not b) ≡ ((g || b) && not b)
+    go true b = refl
+    go false true = refl
+    go false false = refl
+
+-- no mark is set if it was not left
+pub neither : {x y g b a : Bool} → x ≡ g → y ≡ b → a ≡ (g || b) → not (y || x && not y) ≡ not a
+neither {x} {y} {g} {b} p q s = rw (p, q, s) (go g b)
+  where
+    go : (g b : Bool) → not (b || g && not b) ≡ not (g || b)
+    go true true = refl
+    go true false = refl
+    go false true = refl
+    go false false = refl
+
+-- ---- loops
+
+-- p holds of some number if not none are counted
+some-counted : (p : ℕ → Bool) (n : ℕ) → some p n ≡ not (eqb (counted p n) 0)
+unfolding some summed
+some-counted p zero = refl
+some-counted p (suc n) = go (p n) (some-counted p n)
+  where
+    go : (b : Bool) → some p n ≡ not (eqb (counted p n) 0) → (some p n || b) ≡ not (eqb (counted p n + cond b 1 0) 0)
+    go true e = or-true (some p n) ∙ rw (ne-eqb (counted p n + 1) 0 (λ z. omega arith))
+    go false e = or-false (some p n) ∙ e ∙ rw add-zero
+
+-- where one is counted or none, by b, b tells whether p holds of some
+some-is : (p : ℕ → Bool) (n : ℕ) (b : Bool) → counted p n ≡ one b → some p n ≡ b
+some-is p n true e = some-counted p n ∙ rw e
+some-is p n false e = some-counted p n ∙ rw e
+
+-- p holds of no number, so of none below n
+some-none : (p : ℕ → Bool) (n : ℕ) → ((k : ℕ) → p k ≡ false) → some p n ≡ false
+unfolding some
+some-none p zero h = refl
+some-none p (suc n) h = rw (some-none p n h, h n)
+
+-- ---- the chart's cases
+
+-- a test that is not refused holds
+fits : (t : Bool) → unless t 5 ≡ 0 → t ≡ true
+fits true e = refl
+fits false e = let z : _≡_ {A = ℕ} 5 0 = e in absurd (omega arith)
+
+-- a case that is not refused names a step below the number of steps
+cases-zero : (n steps actions : ℕ) (step signal expected : List ℕ) → casesCode n steps actions step signal expected ≡ 0 → (i : ℕ) → i < n → getD step i 0 < steps
+unfolding casesCode
+cases-zero n steps actions step signal expected e i l =
+    let f = fits (caseFitsAt steps actions step signal expected i) (first-zero (λ i. unless (caseFitsAt steps actions step signal expected i) 5) n e i l) in
+    let x = and-true _ (leb (getD expected i 0) 1) f in
+    let y = and-true _ (signalExists (getD signal i 0) actions) (x .0) in
+    let z = and-true (ltb (getD step i 0) steps) (ltb (getD signal i 0) 64) (y .0) in
+    ltb-true _ _ (z .0)
+
+-- the cases of a chart that passed name steps that exist
+case-step : (c : Chart) → chartCode c ≡ 0 → (i : ℕ) → i < c .cases → getD (c .casestep) i 0 < c .steps
+unfolding heldCode
+case-step c e i l =
+    let a = else-zero (unless (limitsFit (c .steps) (c .actions) (c .transitions) (c .blocks) (c .cases)) 4) _ e in
+    let b = else-zero (stepsCode (c .steps) (c .initial)) _ (a .1) in
+    let d = else-zero (actionsCode (c .actions) (c .output)) _ (b .1) in
+    let f = else-zero (transitionsCode (c .transitions) (c .steps) (c .actions) (c .sources) (c .targets) (c .on) (c .off) (c .wait)) _ (d .1) in
+    let g = else-zero (blocksCode (c .blocks) (c .steps) (c .actions) (c .blockstep) (c .blockaction) (c .qualifier) (c .duration)) _ (f .1) in
+    let h = else-zero (casesCode (c .cases) (c .steps) (c .actions) (c .casestep) (c .signal) (c .expected)) _ (g .1) in
+    cases-zero (c .cases) (c .steps) (c .actions) (c .casestep) (c .signal) (c .expected) (h .0) i l
+
+-- ---- one call
+
+module _ (c : Chart) (passes : chartCode c ≡ 0) (i : ℕ) (l : i < c .cases) where
+  -- the case's step
+  abbrev step : ℕ
+  step = getD (c .casestep) i 0
+
+  -- among the taken, one has the case's step as a source
+  abbrev ran : ℕ → Bool
+  ran taken = some (λ t. has taken t && has (getD (c .sources) t 0) step) (c .transitions)
+
+  -- its signal is as expected
+  abbrev fine : ℕ → Bool
+  fine signals = asExpected (getD (c .signal) i 0) (getD (c .expected) i 0) signals
+
+  -- both are numbers of 64-bit sets
+  in-step : step < 64
+  in-step = let s = sound c passes .limits .steps in let h = case-step c passes i l in omega (arith, s, h)
+
+  in-case : i < 64
+  in-case = let s = sound c passes .limits .cases in omega (arith, s, l)
+
+  -- a step is marked left if one of the taken has it as a source
+  left-is : (r : Run) (counts : List ℕ) (signals : ℕ) → ran (choiceOf c r counts signals .taken) ≡ has (choiceOf c r counts signals .left) step
+  left-is r counts signals =
+      some-is _ (c .transitions) (has (choiceOf c r counts signals .left) step)
+      (chosen-is (c .transitions) (c .sources) (c .targets) (c .on) (c .off) (c .wait) counts (r .active) signals (sound c passes .limits .transitions) .leaves step in-step)
+
+  -- what a call adds to the case's marks: to one if its step was left with the signal as expected, to the other if with it otherwise
+  pub record Marked (r : Run) (signals : ℕ) (o : Cycled) : Type 0 where
+    pub good : has (o .run .good) i ≡ (has (r .good) i || ran (o .taken) && fine signals)
+    pub bad : has (o .run .bad) i ≡ (has (r .bad) i || ran (o .taken) && not (fine signals))
+
+  -- marks joined with those of the cases of which p holds
+  added : (mark : ℕ) (p : ℕ → Bool) → has (union mark (collect p (c .cases))) i ≡ (has mark i || p i)
+  added mark p = has-union mark (collect p (c .cases)) i in-case ∙ ap (λ (b : Bool). has mark i || b) (has-collect p (c .cases) i l)
+
+  -- so it is of an accepted call
+  accepted-marks : (r : Run) (clock inputs : ℕ) → Marked r (signalsOf inputs (r .activity)) (cycled c r clock inputs)
+  unfolding marksOf
+  accepted-marks r clock inputs =
+      let signals = signalsOf inputs (r .activity) in
+      let e = sym (left-is r (grownCounts (r .counters) (r .active) (elapsed (r .clock) clock)) signals) in
+      record {
+        good = added (r .good) _ ∙ ap (λ (b : Bool). has (r .good) i || b && fine signals) e;
+        bad = added (r .bad) _ ∙ ap (λ (b : Bool). has (r .bad) i || b && not (fine signals)) e;
+      }
+
+  -- of a refused one, which takes no transition and hands the run back
+  refused-marks : (r : Run) (signals code : ℕ) → Marked r signals (refused code r)
+  refused-marks r signals code =
+      let e : ran 0 ≡ false = some-none (λ t. has 0 t && has (getD (c .sources) t 0) step) (c .transitions) (λ t. ap (λ (b : Bool). b && has (getD (c .sources) t 0) step) (has-zero t)) in
+      record {
+        good = sym (ap (λ (b : Bool). has (r .good) i || b && fine signals) e ∙ or-false (has (r .good) i));
+        bad = sym (ap (λ (b : Bool). has (r .bad) i || b && not (fine signals)) e ∙ or-false (has (r .bad) i));
+      }
+
+  -- and so of any
+  pub marks : (r : Run) (x : Call) → Marked r (signalsOf (x .inputs) (r .activity)) (answer c r x)
+  marks r x = go (eqb (cycleCode c r (x .clock) (x .lent)) 0)
+    where
+      go : (b : Bool) → Marked r (signalsOf (x .inputs) (r .activity)) (cond b (cycled c r (x .clock) (x .inputs)) (refused (cycleCode c r (x .clock) (x .lent)) r))
+      go true = accepted-marks r (x .clock) (x .inputs)
+      go false = refused-marks r (signalsOf (x .inputs) (r .activity)) (cycleCode c r (x .clock) (x .lent))
+
+-- ---- an accepted start, and the calls after it
+
+-- its chart passed
+pub start-passes : (c : Chart) (clock lent : ℕ) → startOf c clock lent .code ≡ 0 → chartCode c ≡ 0
+start-passes c clock lent h = else-zero (unless (leb 32 lent) 15) (chartCode c) (go (eqb (startCode c lent) 0) refl h) .1
+  where
+    go : (b : Bool) → eqb (startCode c lent) 0 ≡ b → cond b (started c clock) (refused (startCode c lent) noRun) .code ≡ 0 → startCode c lent ≡ 0
+    go true e h = eqb-true _ 0 e
+    go false e h = h
+
+-- no mark of case i is set
+pub record Unmarked (r : Run) (i : ℕ) : Type 0 where
+  pub good : has (r .good) i ≡ false
+  pub bad : has (r .bad) i ≡ false
+
+-- a start sets none
+pub start-unmarked : (c : Chart) (clock lent i : ℕ) → Unmarked (begun c clock lent) i
+start-unmarked c clock lent i = go (eqb (startCode c lent) 0)
+  where
+    go : (b : Bool) → Unmarked (cond b (started c clock) (refused (startCode c lent) noRun) .run) i
+    go true = record { good = has-zero i; bad = has-zero i }
+    go false = record { good = has-zero i; bad = has-zero i }
+
+-- a call answers with a run that belongs to the chart, if it was given one: a refused call hands the run back
+answer-belongs : (c : Chart) (r : Run) (x : Call) → belongs c r ≡ true → belongs c (answer c r x .run) ≡ true
+answer-belongs c r x h = go (eqb (answer c r x .code) 0) refl
+  where
+    go : (b : Bool) → eqb (answer c r x .code) 0 ≡ b → belongs c (answer c r x .run) ≡ true
+    go true e = cycle-belongs c r (x .clock) (x .inputs) (x .lent) (eqb-true _ 0 e)
+    go false e = ap (λ (o : Cycled). belongs c (o .run)) (cycle-refused c r (x .clock) (x .inputs) (x .lent) (eqb-false _ 0 e)) ∙ h
+
+-- and so do any calls
+pub after-belongs : (c : Chart) (r : Run) (xs : List Call) → belongs c r ≡ true → belongs c (after c r xs) ≡ true
+unfolding after
+after-belongs c r [] h = h
+after-belongs c r (x ∷ xs) h = after-belongs c (answer c r x .run) xs (answer-belongs c r x h)

@@ -1,0 +1,256 @@
+-- For Answers: an entry's number is its tests' first, what holds of each number that the tests give holds of it, and what a refusal leaves.
+use Prim.Native.Nat.{ℕ, zero, suc, _+_, _-_, _<_}
+use mathlib.Core.Bool.{Bool, true, false, not, cond}
+use mathlib.Core.List.{List}
+use mathlib.Core.Path.{_≡_, refl, sym, ap, _∙_}
+use native.Mathlib.Omega.{arith}
+use lib.IntN.{ℤ}
+use lib.ListN.{length, getD, take, drop}
+use lib.Seq.{take-at, drop-at}
+use lib.Dec.{leb, ltb, eqb}
+use borrow.Author.Tests.{eqb-true, eq-eqb, ne-eqb}
+use Rattle.sets.specs.Loops.{orElse, firstCode}
+use Rattle.sets.specs.Sets.{Apart}
+use Rattle.sets.proofs.Loops.{first-found, length-table}
+use Rattle.reader.specs.Fields.{unless, stepFits, actionFits, transitionFits, stepsDiffer, transitionCode, blockFits, caseFits}
+use Rattle.reader.specs.Framing.{lengthAt, kindAt, bodyLength, kindFits, headNumber, recordNumber}
+use Rattle.reader.specs.Bodies.{bodyAt}
+use Rattle.reader.specs.Chart.{noChart}
+use Rattle.reader.specs.Held.{limitsFit, stepFitsAt, stepsCode, actionFitsAt, actionsCode, transitionCodeAt, transitionsCode, blockFitsAt, blocksCode, caseFitsAt, casesCode, someInitial, timedTwice, closingCode, heldCode, chartCode}
+use Rattle.reader.specs.Reading.{refused, accepted, closed, ended, withBody, numberIn, taken, readFrom, readChart}
+use Rattle.reader.specs.declared.bodies.Body.{Body}
+use Rattle.reader.specs.declared.bodies.Body.the-variants.{Step, Action, Transition, Block, Case}
+use Rattle.reader.specs.declared.chart.Chart.{Chart}
+use Rattle.reader.specs.declared.reading.Reading.{Reading}
+use Rattle.cycle.specs.Run.{noRun}
+use Rattle.cycle.specs.Time.{elapsed}
+use Rattle.cycle.specs.Belongs.{belongs}
+use Rattle.cycle.specs.Outputs.{outputsOf}
+use Rattle.cycle.specs.Cycling.{refused as turned-away, startCode, cycleCode, started, startOf, cycled, cycleOf, outputsAfter}
+use Rattle.cycle.specs.declared.run.Run.{Run}
+use Rattle.cycle.specs.declared.cycling.Cycled.{Cycled}
+use Rattle.report.specs.Tallying.{countsOf, refused as uncounted, tallyCode, tallyOf}
+use Rattle.report.specs.Weighing.{balanced, unbalanced, unbalancedIn, weighCode, refused as unweighed, weighed, weighOf}
+use Rattle.report.specs.Tracing.{isOver, recordFits, traceNumber}
+use Rattle.report.specs.declared.tallying.Tallied.{Tallied}
+use Rattle.report.specs.declared.weighing.Weighed.{Weighed}
+
+-- ---- an answer by its number
+
+-- an answer chosen by its number has that number
+picked : {A : Type 0} (code : A → ℕ) (n : ℕ) (x y : A) → code x ≡ 0 → code y ≡ n → code (cond (eqb n 0) x y) ≡ n
+picked code n x y e f = go (eqb n 0) refl
+  where
+    go : (b : Bool) → eqb n 0 ≡ b → code (cond b x y) ≡ n
+    go true h = e ∙ sym (eqb-true n 0 h)
+    go false h = f
+
+-- one whose number is not 0 is the refusal
+refused-one : {A : Type 0} (code : A → ℕ) (n : ℕ) (x y : A) → code x ≡ 0 → (code (cond (eqb n 0) x y) ≡ 0 → ⊥) → cond (eqb n 0) x y ≡ y
+refused-one code n x y e = go (eqb n 0)
+  where
+    go : (b : Bool) → (code (cond b x y) ≡ 0 → ⊥) → cond b x y ≡ y
+    go true z = absurd (z e)
+    go false z = refl
+
+-- the numbers of start, cycle, tally and weighing are those of their tests
+pub start-code : (c : Chart) (clock lent : ℕ) → startOf c clock lent .code ≡ startCode c lent
+start-code c clock lent = picked (λ (o : Cycled). o .code) (startCode c lent) (started c clock) (turned-away (startCode c lent) noRun) refl refl
+
+pub cycle-code : (c : Chart) (r : Run) (clock inputs lent : ℕ) → cycleOf c r clock inputs lent .code ≡ cycleCode c r clock lent
+cycle-code c r clock inputs lent =
+    picked (λ (o : Cycled). o .code) (cycleCode c r clock lent) (cycled c r clock inputs) (turned-away (cycleCode c r clock lent) r) refl refl
+
+pub tally-code : (c : Chart) (r : Run) → tallyOf c r .code ≡ tallyCode c r
+tally-code c r = picked (λ (o : Tallied). o .code) (tallyCode c r) (countsOf (c .cases) (r .good) (r .bad)) (uncounted (tallyCode c r)) refl refl
+
+pub weigh-code : (c : Chart) (weights : List ℕ) → weighOf c weights .code ≡ weighCode c weights
+weigh-code c weights = picked (λ (o : Weighed). o .code) (weighCode c weights) (weighed c weights) (unweighed (weighCode c weights) _) refl refl
+
+-- a refused tally has three zeros, and a refused weighing total 0
+pub tally-refused : (c : Chart) (r : Run) → (tallyOf c r .code ≡ 0 → ⊥) → tallyOf c r ≡ uncounted (tallyCode c r)
+tally-refused c r = refused-one (λ (o : Tallied). o .code) (tallyCode c r) (countsOf (c .cases) (r .good) (r .bad)) (uncounted (tallyCode c r)) refl
+
+pub weigh-refused : (c : Chart) (weights : List ℕ) → (weighOf c weights .code ≡ 0 → ⊥) → weighOf c weights .total ≡ 0
+weigh-refused c weights z =
+    ap (λ (o : Weighed). o .total) (refused-one (λ (o : Weighed). o .code) (weighCode c weights) (weighed c weights) (unweighed (weighCode c weights) _) refl z)
+
+-- a transition is named only with 14
+pub weigh-names : (c : Chart) (weights : List ℕ) → (weighOf c weights .code ≡ 14 → ⊥) → weighOf c weights .transition ≡ 0
+weigh-names c weights = go (eqb (weighCode c weights) 0)
+  where
+    other : Weighed
+    other = unweighed (weighCode c weights) (cond (eqb (weighCode c weights) 14) (unbalancedIn c weights - 1) 0)
+
+    go : (b : Bool) → (cond b (weighed c weights) other .code ≡ 14 → ⊥) → cond b (weighed c weights) other .transition ≡ 0
+    go true z = refl
+    go false z = rw (ne-eqb (weighCode c weights) 14 z)
+
+-- ---- what holds of each number
+
+-- `P` holds of a number that a test or the first of several tests gives, if it holds of each
+module _ (P : ℕ → Type 0) where
+  either : (t : Bool) (a b : ℕ) → P a → P b → P (cond t a b)
+  either true a b x y = x
+  either false a b x y = y
+
+  else-each : (a b : ℕ) → P a → P b → P (orElse a b)
+  else-each a b x y = either (eqb a 0) b a y x
+
+  first-each : (f : ℕ → ℕ) (n : ℕ) → P 0 → ((i : ℕ) → P (f i)) → P (firstCode f n)
+  unfolding firstCode
+  first-each f zero z h = z
+  first-each f (suc n) z h = else-each (firstCode f n) (f n) (first-each f n z h) (h n)
+
+  -- the record step: 1, 2, 3
+  module _ (p0 : P 0) (p1 : P 1) (p2 : P 2) (p3 : P 3) where
+    pub record-each : (s : List ℕ) (at before : ℕ) → P (recordNumber s at before)
+    unfolding recordNumber
+    record-each s at before =
+        let n = lengthAt s at in
+        let k = kindAt s at in
+        let rest = length s - (at + 4) in
+        let whole : ℕ = cond (leb n rest) 0 1 in
+        let sized : ℕ = cond (eqb n (bodyLength k)) whole 3 in
+        either (leb 4 (length s - at)) (headNumber n k rest before) 1
+        (either (kindFits k before) sized 2 (either (eqb n (bodyLength k)) whole 3 (either (leb n rest) 0 1 p0 p1) p3) p2) p1
+
+  -- a held transition: 5, 6, 7
+  module _ (p0 : P 0) (p5 : P 5) (p6 : P 6) (p7 : P 7) where
+    transition-each : (steps actions sources targets on off wait : ℕ) → P (transitionCode steps actions sources targets on off wait)
+    unfolding transitionCode
+    transition-each steps actions sources targets on off wait =
+        else-each _ _ (either (transitionFits steps actions sources targets on off wait) 0 5 p0 p5)
+        (else-each _ _ (either (stepsDiffer sources targets) 0 6 p0 p6) (either (Apart on off) 0 7 p0 p7))
+
+  -- a held table of another kind: 5
+  column-each : P 0 → P 5 → (p : ℕ → Bool) (n : ℕ) → P (firstCode (λ i. unless (p i) 5) n)
+  column-each p0 p5 p n = first-each (λ i. unless (p i) 5) n p0 (λ i. either (p i) 0 5 p0 p5)
+
+  -- after the records: 9, 8
+  closing-each : P 0 → P 9 → P 8 → (c : Chart) → P (closingCode (c .steps) (c .blocks) (c .initial) (c .blockaction) (c .qualifier))
+  closing-each p0 p9 p8 c =
+      else-each _ _ (either (someInitial (c .steps) (c .initial)) 0 9 p0 p9) (either (not (timedTwice (c .blocks) (c .blockaction) (c .qualifier))) 0 8 p0 p8)
+
+  module _ (p0 : P 0) (p4 : P 4) (p5 : P 5) (p6 : P 6) (p7 : P 7) (p9 : P 9) (p8 : P 8) where
+    pub chart-each : (c : Chart) → P (chartCode c)
+    unfolding heldCode stepsCode actionsCode transitionsCode blocksCode casesCode
+    chart-each c =
+        else-each _ _ (either (limitsFit (c .steps) (c .actions) (c .transitions) (c .blocks) (c .cases)) 0 4 p0 p4)
+        (else-each _ _ (column-each p0 p5 (stepFitsAt (c .initial)) (c .steps))
+        (else-each _ _ (column-each p0 p5 (actionFitsAt (c .output)) (c .actions))
+        (else-each _ _ (first-each (transitionCodeAt (c .steps) (c .actions) (c .sources) (c .targets) (c .on) (c .off) (c .wait)) (c .transitions) p0 (λ i. transition-each p0 p5 p6 p7 _ _ _ _ _ _ _))
+        (else-each _ _ (column-each p0 p5 (blockFitsAt (c .steps) (c .actions) (c .blockstep) (c .blockaction) (c .qualifier) (c .duration)) (c .blocks))
+        (else-each _ _ (column-each p0 p5 (caseFitsAt (c .steps) (c .actions) (c .casestep) (c .signal) (c .expected)) (c .cases))
+        (closing-each p0 p9 p8 c))))))
+
+    -- the entries that test the chart, with numbers of their own
+    pub start-each : P 15 → (c : Chart) (clock lent : ℕ) → P (startOf c clock lent .code)
+    start-each p15 c clock lent = rw (start-code c clock lent) (else-each _ _ (either (leb 32 lent) 0 15 p0 p15) (chart-each c))
+
+    pub cycle-each : P 15 → P 12 → P 11 → (c : Chart) (r : Run) (clock inputs lent : ℕ) → P (cycleOf c r clock inputs lent .code)
+    cycle-each p15 p12 p11 c r clock inputs lent =
+        rw (cycle-code c r clock inputs lent)
+        (else-each _ _ (either (leb 32 lent) 0 15 p0 p15)
+        (else-each _ _ (chart-each c) (else-each _ _ (either (belongs c r) 0 12 p0 p12) (either (leb (elapsed (r .clock) clock) 60000) 0 11 p0 p11))))
+
+    pub tally-each : P 12 → (c : Chart) (r : Run) → P (tallyOf c r .code)
+    tally-each p12 c r = rw (tally-code c r) (else-each _ _ (chart-each c) (either (belongs c r) 0 12 p0 p12))
+
+    pub weigh-each : P 13 → P 14 → (c : Chart) (weights : List ℕ) → P (weighOf c weights .code)
+    weigh-each p13 p14 c weights =
+        rw (weigh-code c weights)
+        (else-each _ _ (chart-each c)
+        (else-each _ _ (either (eqb (length weights) (c .steps)) 0 13 p0 p13) (either (eqb (unbalancedIn c weights) 0) 0 14 p0 p14)))
+
+  -- a trace record: 16
+  pub trace-each : P 0 → P 16 → (s : List ℕ) (at : ℕ) → P (traceNumber s at)
+  trace-each p0 p16 s at = either (isOver s at) 0 (unless (recordFits s at) 16) p0 (either (recordFits s at) 0 16 p0 p16)
+
+  -- reading: all from 1 to 10
+  module _ (p0 : P 0) (p1 : P 1) (p2 : P 2) (p3 : P 3) (p4 : P 4) (p5 : P 5) (p6 : P 6) (p7 : P 7) (p10 : P 10) (p9 : P 9) (p8 : P 8) where
+    -- a body read into the chart: 4, 5, 6, 7
+    body-each : (c : Chart) (b : Body) → P (numberIn c b)
+    body-each c (Step i) = else-each _ _ (either (ltb (c .steps) 64) 0 4 p0 p4) (either (stepFits i) 0 5 p0 p5)
+    body-each c (Action o v) = else-each _ _ (either (ltb (c .actions) 32) 0 4 p0 p4) (either (actionFits o) 0 5 p0 p5)
+    body-each c (Transition f g on off w) = else-each _ _ (either (ltb (c .transitions) 64) 0 4 p0 p4) (transition-each p0 p5 p6 p7 (c .steps) (c .actions) f g on off w)
+    body-each c (Block k a q d) = else-each _ _ (either (ltb (c .blocks) 256) 0 4 p0 p4) (either (blockFits (c .steps) (c .actions) k a q d) 0 5 p0 p5)
+    body-each c (Case k n e) = else-each _ _ (either (ltb (c .cases) 64) 0 4 p0 p4) (either (caseFits (c .steps) (c .actions) k n e) 0 5 p0 p5)
+
+    -- one of two readings, by a test
+    answer-either : (t : Bool) (x y : Reading) → P (x .code) → P (y .code) → P (cond t x y .code)
+    answer-either true x y a b = a
+    answer-either false x y a b = b
+
+    -- after the end record: 10, 9, 8
+    ended-each : (size next : ℕ) (c : Chart) → P (ended size next c .code)
+    ended-each size next c =
+        let n = closingCode (c .steps) (c .blocks) (c .initial) (c .blockaction) (c .qualifier) in
+        answer-either (ltb next size) (refused 10 next) (closed n c) p10 (answer-either (eqb n 0) (accepted c) (refused n 0) p0 (closing-each p0 p9 p8 c))
+
+    -- record after record
+    from-each : (f : ℕ) (s : List ℕ) (at before : ℕ) (c : Chart) → P (readFrom f s at before c .code)
+    unfolding readFrom
+    from-each zero s at before c = p1
+    from-each (suc f) s at before c =
+        let k = kindAt s at in
+        let b = bodyAt s k (at + 4) in
+        let onward = readFrom f s (at + 4 + lengthAt s at) k in
+        let over = ended (length s) (at + 4) c in
+        let n = recordNumber s at before in
+        answer-either (eqb n 0) (cond (eqb k 0) over (taken at c b onward)) (refused n at)
+        (answer-either (eqb k 0) over (taken at c b onward) (ended-each (length s) (at + 4) c)
+        (answer-either (eqb (numberIn c b) 0) (onward (withBody c b)) (refused (numberIn c b) at)
+        (from-each f s (at + 4 + lengthAt s at) (kindAt s at) (withBody c (bodyAt s (kindAt s at) (at + 4)))) (body-each c b)))
+        (record-each p0 p1 p2 p3 s at before)
+
+    pub read-each : (s : List ℕ) → P (readChart s .code)
+    read-each s = from-each (length s + 1) s 0 0 noChart
+
+-- ---- the first unbalanced transition
+
+-- no number at all
+first-none : (f : ℕ → ℕ) (n : ℕ) → ((i : ℕ) → i < n → f i ≡ 0) → firstCode f n ≡ 0
+unfolding firstCode
+first-none f zero h = refl
+first-none f (suc n) h = rw (first-none f n (λ i l. h i (omega arith))) (h n (omega arith))
+
+module _ (c : Chart) (weights : List ℕ) where
+  -- transition t is balanced
+  abbrev fair : ℕ → Bool
+  fair t = balanced weights (getD (c .sources) t 0) (getD (c .targets) t 0)
+
+  -- if each is, none is found
+  pub all-balanced : ((t : ℕ) → t < c .transitions → fair t ≡ true) → unbalancedIn c weights ≡ 0
+  unfolding unbalanced
+  all-balanced h = first-none (λ t. unless (fair t) (t + 1)) (c .transitions) (λ t l. rw (h t l))
+
+  -- the first that is not is found
+  pub first-unbalanced : (t : ℕ) → t < c .transitions → ((u : ℕ) → u < t → fair u ≡ true) → fair t ≡ false → t + 1 ≡ unbalancedIn c weights
+  unfolding unbalanced
+  first-unbalanced t l h e =
+      first-found (λ t. unless (fair t) (t + 1)) t (c .transitions) (t + 1) (first-none (λ t. unless (fair t) (t + 1)) t (λ u k. rw (h u k))) l (rw e) (λ z. omega arith)
+
+-- ---- the lent outputs
+
+-- the outputs are 32
+outputs-length : (n : ℕ) (output : List ℕ) (value : List ℤ) (activity : ℕ) → length (outputsOf n output value activity) ≡ 32
+unfolding outputsOf
+outputs-length n output value activity = length-table _ 32
+
+module _ (c : Chart) (o : Cycled) (out : List ℤ) where
+  -- a refusal leaves them
+  pub left-alone : (o .code ≡ 0 → ⊥) → outputsAfter c o out ≡ out
+  left-alone z = rw (ne-eqb (o .code) 0 z)
+
+  -- an accepted call writes the first 32
+  pub front-written : o .code ≡ 0 → take 32 (outputsAfter c o out) ≡ outputsOf (c .actions) (c .output) (c .value) (o .run .activity)
+  front-written e =
+      rw (eq-eqb (o .code) 0 e)
+      (take-at (outputsOf (c .actions) (c .output) (c .value) (o .run .activity)) (drop 32 out) 32 (outputs-length (c .actions) (c .output) (c .value) (o .run .activity)))
+
+  -- and no others
+  pub rest-kept : o .code ≡ 0 → drop 32 (outputsAfter c o out) ≡ drop 32 out
+  rest-kept e =
+      rw (eq-eqb (o .code) 0 e)
+      (drop-at (outputsOf (c .actions) (c .output) (c .value) (o .run .activity)) (drop 32 out) 32 (outputs-length (c .actions) (c .output) (c .value) (o .run .activity)))

@@ -1,0 +1,143 @@
+-- "Prove that two answers allowed by one statement are equal": each public function of the parts, by the statement in its source.
+use Prim.Native.Nat.{ℕ, _≤_, _<_}
+use mathlib.Core.Bool.{Bool, cond}
+use mathlib.Core.List.{List}
+use mathlib.Core.Path.{_≡_}
+use lib.IntN.{ℤ}
+use lib.ListN.{length}
+use Rattle.sets.specs.Sets.{has, Within, Apart, Below, union, inter, minus, insert, size}
+use Rattle.sets.proofs.Unique.{is-in-unique, is-within-unique, is-apart-unique, names-below-unique, joined-unique, common-unique, without-unique, with-unique, with-if-unique, size-unique}
+use Rattle.reader.specs.Numbers.{leFrom}
+use Rattle.reader.specs.Framing.{Answers}
+use Rattle.reader.specs.Chart.{noChart}
+use Rattle.reader.specs.Held.{heldCode, chartCode}
+use Rattle.reader.specs.Reading.{readChart}
+use Rattle.reader.specs.declared.framing.Next.{Next}
+use Rattle.reader.specs.declared.chart.Chart.{Chart}
+use Rattle.reader.specs.declared.reading.Reading.{Reading}
+use Rattle.reader.proofs.framing.Laws.{record-at-unique}
+use Rattle.reader.proofs.Unique.{no-chart-unique, held-code-unique, chart-code-unique, from-unique, index-of-unique, read-chart-unique}
+use Rattle.cycle.specs.Run.{noRun, longerCounter, longerTimer}
+use Rattle.cycle.specs.Time.{elapsed}
+use Rattle.cycle.specs.Moving.{initialOf}
+use Rattle.cycle.specs.Belongs.{belongsTo}
+use Rattle.cycle.specs.Cycling.{startOf, cycleOf, outputsAfter}
+use Rattle.cycle.specs.declared.run.StepCounter.{StepCounter}
+use Rattle.cycle.specs.declared.run.ActionTimer.{ActionTimer}
+use Rattle.cycle.specs.declared.run.Run.{Run}
+use Rattle.cycle.specs.declared.cycling.Cycled.{Cycled}
+use Rattle.cycle.proofs.Unique.{belongs-unique, start-unique, cycle-unique, initial-of-unique, counter-longer-unique, timer-longer-unique, no-run-unique, elapsed-unique}
+use Rattle.report.specs.Tallying.{tallyOf}
+use Rattle.report.specs.Weighing.{weighOf}
+use Rattle.report.specs.Tracing.{callAt, numberOf, traceNumber}
+use Rattle.report.specs.Printing.{opening, printedOf, lineAfter}
+use Rattle.report.specs.declared.tallying.Tallied.{Tallied}
+use Rattle.report.specs.declared.weighing.Weighed.{Weighed}
+use Rattle.report.specs.declared.tracing.Call.{Call}
+use Rattle.report.specs.declared.printing.Standing.{Standing}
+use Rattle.report.specs.declared.printing.Printed.{Printed}
+use Rattle.report.proofs.Unique.{opening-unique, print-next-unique, tally-unique, call-at-unique, weigh-unique}
+
+-- two answers that a statement allows are equal
+abbrev pub One : {A : Type 0} → (A → Type 0) → Type 0
+One {A} allowed = (r q : A) → allowed r → allowed q → r ≡ q
+
+-- and so is what two answers leave in a lent slice
+abbrev pub Both : {A B : Type 0} → (A → B → Type 0) → Type 0
+Both {A} {B} allowed = (r q : A) (f g : B) → allowed r f → allowed q g → (r ≡ q) × (f ≡ g)
+
+-- sets/src/lib.rt
+pub record SetsUnique : Type 0 where
+  pub is-in : (s k : ℕ) → One (λ (r : Bool). r ≡ has s k)
+  pub is-within : (a b : ℕ) → One (λ (r : Bool). r ≡ Within a b)
+  pub is-apart : (a b : ℕ) → One (λ (r : Bool). r ≡ Apart a b)
+  pub names-below : (s n : ℕ) → One (λ (r : Bool). r ≡ Below s n)
+  pub joined : (a b : ℕ) → One (λ (r : ℕ). r ≡ union a b)
+  pub common : (a b : ℕ) → One (λ (r : ℕ). r ≡ inter a b)
+  pub without : (a b : ℕ) → One (λ (r : ℕ). r ≡ minus a b)
+  pub with : (s k : ℕ) → One (λ (r : ℕ). r ≡ insert s k)
+  pub with-if : (s k : ℕ) (b : Bool) → One (λ (r : ℕ). r ≡ cond b (insert s k) s)
+  pub size : (s : ℕ) → One (λ (r : ℕ). r ≡ size s)
+
+-- reader/src: chart, framing, held, numbers, reading
+pub record ReaderUnique : Type 0 where
+  pub no-chart : One (λ (r : Chart). r ≡ noChart)
+  pub record-at : (bytes : List ℕ) (at before : ℕ) → One (λ (r : Next). Answers r bytes at before)
+  pub held-code : (steps actions transitions blocks cases : ℕ) (initial output sources targets on off wait blockstep blockaction qualifier duration casestep signal expected : List ℕ)
+      → One (λ (r : ℕ). r ≡ heldCode steps actions transitions blocks cases initial output sources targets on off wait blockstep blockaction qualifier duration casestep signal expected)
+  pub chart-code : (chart : Chart) → One (λ (r : ℕ). r ≡ chartCode chart)
+  pub u16-from : (bytes : List ℕ) (at : ℕ) → One (λ (r : ℕ). r ≡ leFrom 2 bytes at)
+  pub u32-from : (bytes : List ℕ) (at : ℕ) → One (λ (r : ℕ). r ≡ leFrom 4 bytes at)
+  pub index-of : (x : ℕ) → One (λ (r : ℕ). (r ≡ x) × (r < 256))
+  pub read-chart : (bytes : List ℕ) → One (λ (r : Reading). r ≡ readChart bytes)
+
+-- cycle/src: belongs, cycling, moving, run, time
+pub record CycleUnique : Type 0 where
+  pub belongs : (run : Run) (steps actions cases : ℕ) → One (λ (r : Bool). r ≡ belongsTo steps actions cases run)
+  pub start : (chart : Chart) (clock : ℕ) (outputs : List ℤ)
+      → Both (λ (r : Cycled) (exit : List ℤ). (r ≡ startOf chart clock (length outputs)) × (exit ≡ outputsAfter chart r outputs))
+  pub cycle : (chart : Chart) (run : Run) (clock inputs : ℕ) (outputs : List ℤ)
+      → Both (λ (r : Cycled) (exit : List ℤ). (r ≡ cycleOf chart run clock inputs (length outputs)) × (exit ≡ outputsAfter chart r outputs))
+  pub initial-of : (n : ℕ) (initial : List ℕ) → One (λ (r : ℕ). r ≡ initialOf n initial)
+  pub StepCounter-longer : (self : StepCounter) (e : ℕ) → One (λ (r : StepCounter). r ≡ longerCounter e self)
+  pub ActionTimer-longer : (self : ActionTimer) (e : ℕ) → One (λ (r : ActionTimer). r ≡ longerTimer e self)
+  pub no-run : One (λ (r : Run). r ≡ noRun)
+  pub elapsed : (last new : ℕ) → One (λ (r : ℕ). r ≡ elapsed last new)
+
+-- report/src: printing, tallying, tracing, weighing
+pub record ReportUnique : Type 0 where
+  pub opening : One (λ (r : Standing). r ≡ opening)
+  pub print-next : (code : ℕ) (chart : Chart) (trace : List ℕ) (standing : Standing) (line : List ℕ)
+      → Both (λ (r : Printed) (exit : List ℕ). (r ≡ printedOf (length line) code chart trace standing) × (exit ≡ lineAfter code chart trace standing line) × (r .length ≤ length line))
+  pub tally : (chart : Chart) (run : Run) → One (λ (r : Tallied). r ≡ tallyOf chart run)
+  pub call-at : (trace : List ℕ) (at : ℕ) → One (λ (r : Call). (r ≡ callAt trace at) × (numberOf r ≡ traceNumber trace at))
+  pub weigh : (chart : Chart) (weights : List ℕ) → One (λ (r : Weighed). r ≡ weighOf chart weights)
+
+pub record Unique : Type 0 where
+  pub sets : SetsUnique
+  pub reader : ReaderUnique
+  pub cycle : CycleUnique
+  pub report : ReportUnique
+
+pub unique : Unique
+unique = record {
+  sets = record {
+    is-in = is-in-unique;
+    is-within = is-within-unique;
+    is-apart = is-apart-unique;
+    names-below = names-below-unique;
+    joined = joined-unique;
+    common = common-unique;
+    without = without-unique;
+    with = with-unique;
+    with-if = with-if-unique;
+    size = size-unique;
+  };
+  reader = record {
+    no-chart = no-chart-unique;
+    record-at = record-at-unique;
+    held-code = held-code-unique;
+    chart-code = chart-code-unique;
+    u16-from = from-unique 2;
+    u32-from = from-unique 4;
+    index-of = index-of-unique;
+    read-chart = read-chart-unique;
+  };
+  cycle = record {
+    belongs = λ run steps actions cases. belongs-unique steps actions cases run;
+    start = λ chart clock outputs r q f g a b. start-unique chart clock r q outputs f g (a .0) (b .0) (a .1) (b .1);
+    cycle = λ chart run clock inputs outputs r q f g a b. cycle-unique chart run clock inputs r q outputs f g (a .0) (b .0) (a .1) (b .1);
+    initial-of = initial-of-unique;
+    StepCounter-longer = λ self e. counter-longer-unique e self;
+    ActionTimer-longer = λ self e. timer-longer-unique e self;
+    no-run = no-run-unique;
+    elapsed = elapsed-unique;
+  };
+  report = record {
+    opening = opening-unique;
+    print-next = λ code chart trace standing line r q f g. print-next-unique code chart trace standing line f g r q;
+    tally = tally-unique;
+    call-at = call-at-unique;
+    weigh = weigh-unique;
+  };
+}
