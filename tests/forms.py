@@ -1,0 +1,33 @@
+#!/usr/bin/env python3
+"""The stored cases of the programs list_records and lent_cycles: their input, and the output that document 01 asks for, by hand.
+
+  tests/forms.py           write stdin and stdout of both crates
+  tests/forms.py --check   say whether they are what this file says
+"""
+import struct
+import sys
+
+sys.dont_write_bytecode = True
+from read_charts import CHART_A, store  # noqa: E402
+
+# kind, the body's place, its length: each body stands 4 bytes behind the end of the record before. Asked again, it answers the same.
+RECORDS = ["1 4 1", "1 9 1", "2 14 5", "2 23 5", "3 32 36", "3 72 36", "4 112 7", "4 123 7", "4 134 7", "5 145 3", "end", "end"]
+
+# start 1000; 1010 with input 0; 70,000 is refused 11; 1510 with input 1. A line is code, taken, active, activity, clock.
+CALLS = [(1010, 1), (70_000, 0), (1510, 2)]
+LINES = ["0 0 1 0 1000", "0 1 2 3 1010", "11 0 2 3 1010", "0 2 1 0 1510"]
+
+
+def text(lines):
+    return "".join(line + "\n" for line in lines).encode()
+
+
+if __name__ == "__main__":
+    calls = b"".join(struct.pack("<II", *call) for call in CALLS)
+    store({
+        "crates/list_records/stdin": CHART_A,
+        "crates/list_records/stdout": text(RECORDS),
+        "crates/lent_cycles/stdin": struct.pack("<H", len(CHART_A)) + CHART_A + struct.pack("<IH", 1000, len(CALLS)) + calls,
+        "crates/lent_cycles/stdout": text(LINES),
+    }, "tests/forms.py")
+    print("list_records, lent_cycles: 2 stored runs")
