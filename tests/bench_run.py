@@ -8,7 +8,6 @@
 Short outputs are written out by hand. The long ones come from the plain model of start and cycle in run_cycles.py; nothing here
 gets an expected line from the engine.
 """
-import struct
 import subprocess
 import sys
 import tempfile
@@ -17,15 +16,7 @@ from pathlib import Path
 sys.dont_write_bytecode = True
 import run_cycles as model  # noqa: E402
 from read_charts import CHART_A, END, GO, L, N, ONE, ROOT, TWO, action, block, case, record, step, store, transition  # noqa: E402
-
-
-def start(clock):
-    return record(17, struct.pack("<I", clock))
-
-
-def cycle(clock, inputs=0):
-    return record(16, struct.pack("<II", clock, inputs))
-
+from sources import SOURCES, cycle, start  # noqa: E402
 
 TRACE_A = start(1000) + cycle(1010, 1) + cycle(1510, 2)
 LINES_A = [
@@ -140,6 +131,13 @@ CASES += [
 ]
 
 
+CASES += SOURCES
+
+
+def text(lines):
+    return "".join(line + "\n" for line in lines).encode()
+
+
 def run(folder, trace, output=subprocess.PIPE):
     command = [ROOT / "tools" / "run", "bench_run"]
     return subprocess.run(command, cwd=folder, input=trace, stdout=output, stderr=subprocess.PIPE, timeout=60, check=False)
@@ -150,31 +148,43 @@ def run_case(name, chart, trace, lines):
         if chart is not None:
             (Path(folder) / "chart.bin").write_bytes(chart)
         done = run(folder, trace)
-    expected = "".join(line + "\n" for line in lines).encode()
+    expected = text(lines)
     if done.stdout != expected or done.stderr or done.returncode != 0:
         sys.exit(f"bench_run, {name}: status {done.returncode}, printed {done.stdout[-400:]!r} {done.stderr!r}, expected {expected[-400:]!r}")
 
 
 def run_odd():
-    """A chart.bin that is a folder can't be read and counts as empty; a write that fails ends the run, in time."""
+    """Files that are far too large, a chart.bin that can't be opened or read, an output that takes nothing: a clear end in each."""
+    odd = 0
+    for make, trace, expected in [
+        (lambda path: path.mkdir(), TRACE_A, b"refused chart 1\n"),
+        (lambda path: path.symlink_to("nowhere"), TRACE_A, b"refused chart 1\n"),
+        (lambda path: path.write_bytes(CHART_A.ljust(10_000_000, b"\0")), TRACE_A, b"refused chart 10\n"),
+        (lambda path: path.write_bytes(CHART_A), FULL.ljust(10_000_000, b"\0"), text(LONG_LINES + [BAD_TRACE])),
+    ]:
+        with tempfile.TemporaryDirectory() as folder:
+            make(Path(folder) / "chart.bin")
+            done = run(folder, trace)
+            assert (done.stdout, done.returncode) == (expected, 0), (trace[:8], done.stdout[-200:])
+        odd += 1
     with tempfile.TemporaryDirectory() as folder:
-        (Path(folder) / "chart.bin").mkdir()
-        assert run(folder, TRACE_A).stdout == b"refused chart 1\n", "a folder chart.bin"
-    with tempfile.TemporaryDirectory() as folder, open("/dev/full", "wb") as full:
         (Path(folder) / "chart.bin").write_bytes(CHART_A)
-        assert run(folder, FULL, full).returncode == 0, "a failed write"
+        with open("/dev/full", "wb") as full:
+            assert run(folder, FULL, full).returncode == 0, "a full device"
+        closed = subprocess.run(["sh", "-c", 'exec "$0" bench_run >&-', ROOT / "tools" / "run"], cwd=folder, input=FULL, timeout=60, check=False)
+        assert closed.returncode == 0, "a closed output"
+    return odd + 2
 
 
 if __name__ == "__main__":
     if "--run" in sys.argv[1:]:
         for shown in CASES:
             run_case(*shown)
-        run_odd()
-        print(f"bench_run: {len(CASES) + 2} runs")
+        print(f"bench_run: {len(CASES) + run_odd()} runs")
     else:
         store({
             "crates/bench_run/data/chart.bin": CHART_A,
             "crates/bench_run/stdin": TRACE_A,
-            "crates/bench_run/stdout": "".join(text + "\n" for text in CASES[0][3]).encode(),
+            "crates/bench_run/stdout": text(CASES[0][3]),
         }, "tests/bench_run.py")
         print("bench_run: 1 stored run")
