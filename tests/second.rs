@@ -1,0 +1,2132 @@
+// A second engine for the chart, its cycle and its tally, written from document 01 alone.
+// Words in quotation marks above a function are sentences of document 01. A function that only
+// serves the command line says so instead, since document 01 doesn't speak of that.
+
+use std::collections::BTreeSet;
+use std::io::{Read, Write};
+
+// ---------------------------------------------------------------------------------------------
+// Sets, numbers and tables
+// ---------------------------------------------------------------------------------------------
+
+type Set = BTreeSet<usize>;
+type Code = u64;
+
+// "Waits and durations are at most 86,400,000." "... stopping at 86,400,000."
+const LONGEST: u32 = 86_400_000;
+
+// "64-bit sets, bit k is number k"
+fn set_of(word: u64) -> Set {
+    (0..64).filter(|k| (word >> *k) & 1 == 1).collect()
+}
+
+// "64-bit sets, bit k is number k" (the way back)
+fn word_of(set: &Set) -> u64 {
+    let mut word = 0;
+    for k in set.iter().filter(|k| **k < 64) {
+        word |= 1u64 << *k;
+    }
+    word
+}
+
+// "... each numbered from 0 in file order." (the numbers that exist where there are `count`)
+fn numbers(count: usize) -> Set {
+    (0..count).collect()
+}
+
+// "all little-endian" (nothing if the bytes are too few)
+fn number(bytes: &[u8], place: usize, width: usize) -> Option<u64> {
+    let end = place.checked_add(width)?;
+    let field = bytes.get(place..end)?;
+    let mut value: u64 = 0;
+    for byte in field.iter().rev() {
+        value = (value << 8) | u64::from(*byte);
+    }
+    Some(value)
+}
+
+// "... each numbered from 0 ..." (entry k of a table)
+fn at<T: Copy + Default>(table: &[T], k: usize) -> T {
+    table.get(k).copied().unwrap_or_default()
+}
+
+// "... each numbered from 0 ..." (writing entry k of a table)
+fn put<T>(table: &mut [T], k: usize, value: T) {
+    if let Some(entry) = table.get_mut(k) {
+        *entry = value;
+    }
+}
+
+// Bytes taken field by field, from the first to the last.
+struct Fields<'a> {
+    bytes: &'a [u8],
+    place: usize,
+}
+
+impl<'a> Fields<'a> {
+    // "a two-byte body length, a two-byte kind, the body" (fields stand one after the other)
+    fn new(bytes: &'a [u8]) -> Fields<'a> {
+        Fields { bytes, place: 0 }
+    }
+
+    // "all little-endian" (the next field of this width)
+    fn take(&mut self, width: usize) -> Option<u64> {
+        let value = number(self.bytes, self.place, width)?;
+        self.place += width;
+        Some(value)
+    }
+
+    // For the command line: the next `length` bytes.
+    fn slice(&mut self, length: usize) -> Option<&'a [u8]> {
+        let end = self.place.checked_add(length)?;
+        let slice = self.bytes.get(self.place..end)?;
+        self.place = end;
+        Some(slice)
+    }
+
+    // For the command line: the next `count` fields of this width.
+    fn column(&mut self, count: usize, width: usize) -> Option<Vec<u64>> {
+        (0..count).map(|_| self.take(width)).collect()
+    }
+}
+
+// ---------------------------------------------------------------------------------------------
+// The chart
+// ---------------------------------------------------------------------------------------------
+
+#[derive(Clone, Copy, PartialEq)]
+enum Qualifier {
+    N,
+    R,
+    S,
+    L,
+    D,
+    P,
+    SD,
+    DS,
+    SL,
+    P1,
+    P0,
+}
+
+// "Qualifiers: 0 N, 1 R, 2 S, 3 L, 4 D, 5 P, 6 SD, 7 DS, 8 SL, 9 P1, 10 P0."
+fn qualifier_of(number: u8) -> Option<Qualifier> {
+    match number {
+        0 => Some(Qualifier::N),
+        1 => Some(Qualifier::R),
+        2 => Some(Qualifier::S),
+        3 => Some(Qualifier::L),
+        4 => Some(Qualifier::D),
+        5 => Some(Qualifier::P),
+        6 => Some(Qualifier::SD),
+        7 => Some(Qualifier::DS),
+        8 => Some(Qualifier::SL),
+        9 => Some(Qualifier::P1),
+        10 => Some(Qualifier::P0),
+        _ => None,
+    }
+}
+
+// "L, D, SD, DS and SL are timed and may have duration 0; the others must have duration 0."
+fn is_timed(qualifier: Qualifier) -> bool {
+    match qualifier {
+        Qualifier::L | Qualifier::D | Qualifier::SD | Qualifier::DS | Qualifier::SL => true,
+        Qualifier::N | Qualifier::R | Qualifier::S => false,
+        Qualifier::P | Qualifier::P1 | Qualifier::P0 => false,
+    }
+}
+
+#[derive(Clone)]
+struct Step {
+    initial: u8,
+}
+
+#[derive(Clone)]
+struct Action {
+    output: u8,
+    value: i32,
+}
+
+#[derive(Clone)]
+struct Transition {
+    sources: Set,
+    targets: Set,
+    on: Set,
+    off: Set,
+    wait: u32,
+}
+
+#[derive(Clone)]
+struct Block {
+    step: usize,
+    action: usize,
+    qualifier: u8,
+    duration: u32,
+}
+
+#[derive(Clone)]
+struct Case {
+    step: usize,
+    signal: usize,
+    expected: u8,
+}
+
+// A chart whose tables end at its counts.
+#[derive(Clone, Default)]
+struct Chart {
+    steps: Vec<Step>,
+    actions: Vec<Action>,
+    transitions: Vec<Transition>,
+    blocks: Vec<Block>,
+    cases: Vec<Case>,
+}
+
+#[derive(Clone)]
+struct Counts {
+    steps: u64,
+    actions: u64,
+    transitions: u64,
+    blocks: u64,
+    cases: u64,
+}
+
+// A chart as a caller holds it: any counts, and tables that may go on beyond them.
+#[derive(Clone)]
+struct Held {
+    counts: Counts,
+    tables: Chart,
+}
+
+// "A chart held by a caller may have been altered." (a chart before anybody alters it)
+fn hold(chart: &Chart) -> Held {
+    let counts = Counts {
+        steps: chart.steps.len() as u64,
+        actions: chart.actions.len() as u64,
+        transitions: chart.transitions.len() as u64,
+        blocks: chart.blocks.len() as u64,
+        cases: chart.cases.len() as u64,
+    };
+    Held { counts, tables: chart.clone() }
+}
+
+// ---------------------------------------------------------------------------------------------
+// Tests of one record and of the whole chart
+// ---------------------------------------------------------------------------------------------
+
+// "A set or field may name only steps and actions that exist; all 32 inputs exist." with
+// "Signals 0..31 are the cycle's inputs; signal 32+k is the activity of action k ..."
+fn existing_signals(actions: usize) -> Set {
+    let mut signals = numbers(32);
+    signals.extend((0..actions).map(|k| 32 + k));
+    signals
+}
+
+// "1 step | 1 | 1 initial, 0 not"; "5 | a field outside its stated range"
+fn test_step(step: &Step) -> Result<(), Code> {
+    if step.initial > 1 {
+        return Err(5);
+    }
+    Ok(())
+}
+
+// "2 action | 5 | output 0..31; value, signed 32 bits"; "5 | a field outside its stated range"
+fn test_action(action: &Action) -> Result<(), Code> {
+    if action.output > 31 {
+        return Err(5);
+    }
+    Ok(())
+}
+
+// "5 | a field outside its stated range"; "6 | a transition has no source, no target, or a step
+// that is both"; "7 | a signal in both on and off"
+fn test_transition(transition: &Transition, steps: usize, actions: usize) -> Result<(), Code> {
+    let steps = numbers(steps);
+    let signals = existing_signals(actions);
+    if !transition.sources.is_subset(&steps) || !transition.targets.is_subset(&steps) {
+        return Err(5);
+    }
+    if !transition.on.is_subset(&signals) || !transition.off.is_subset(&signals) {
+        return Err(5);
+    }
+    if transition.wait > LONGEST {
+        return Err(5);
+    }
+    if transition.sources.is_empty() || transition.targets.is_empty() {
+        return Err(6);
+    }
+    if !transition.sources.is_disjoint(&transition.targets) {
+        return Err(6);
+    }
+    if !transition.on.is_disjoint(&transition.off) {
+        return Err(7);
+    }
+    Ok(())
+}
+
+// "A set or field may name only steps and actions that exist"; "Waits and durations are at most
+// 86,400,000."; "L, D, SD, DS and SL are timed and may have duration 0; the others must have
+// duration 0."; "5 | a field outside its stated range"
+fn test_block(block: &Block, steps: usize, actions: usize) -> Result<(), Code> {
+    if block.step >= steps || block.action >= actions {
+        return Err(5);
+    }
+    let qualifier = qualifier_of(block.qualifier).ok_or(5u64)?;
+    if block.duration > LONGEST {
+        return Err(5);
+    }
+    if !is_timed(qualifier) && block.duration != 0 {
+        return Err(5);
+    }
+    Ok(())
+}
+
+// "5 case | 3 | step, signal 0..63, expected 0 or 1"; "A set or field may name only steps and
+// actions that exist; all 32 inputs exist."; "5 | a field outside its stated range"
+fn test_case(case: &Case, steps: usize, actions: usize) -> Result<(), Code> {
+    if case.step >= steps || !existing_signals(actions).contains(&case.signal) {
+        return Err(5);
+    }
+    if case.expected > 1 {
+        return Err(5);
+    }
+    Ok(())
+}
+
+// "9 | no initial step (a chart without steps included)"; "8 | two timed blocks for one action",
+// in the order "9, 8"
+fn test_whole(chart: &Chart) -> Result<(), Code> {
+    if !chart.steps.iter().any(|step| step.initial == 1) {
+        return Err(9);
+    }
+    let mut with_timed = Set::new();
+    for block in &chart.blocks {
+        let timed = qualifier_of(block.qualifier).map_or(false, is_timed);
+        if timed && !with_timed.insert(block.action) {
+            return Err(8);
+        }
+    }
+    Ok(())
+}
+
+// ---------------------------------------------------------------------------------------------
+// The reader
+// ---------------------------------------------------------------------------------------------
+
+// "it remembers the lent bytes and the place, with the kind before"
+struct RecordReader<'a> {
+    bytes: &'a [u8],
+    place: usize,
+    before: u64,
+}
+
+#[derive(Clone, Copy, PartialEq)]
+enum Next {
+    Record { kind: u64, body: usize, length: usize },
+    End,
+    Refused { code: Code, place: usize },
+}
+
+// "| Kind | Body |": 1 step 1, 2 action 5, 3 transition 36, 4 block 7, 5 case 3, "then one end
+// record (kind 0, no body)"
+fn body_length(kind: u64) -> u64 {
+    match kind {
+        1 => 1,
+        2 => 5,
+        3 => 36,
+        4 => 7,
+        5 => 3,
+        _ => 0,
+    }
+}
+
+// "Asked so, it tests 1, 2, 3 and the cut body only, and answers the kind with its body's place
+// and length, or the end, or the refusal with the record's place. After the end or a refusal it
+// doesn't move, and asking again answers the same. A place beyond the bytes answers 1."
+fn next_record(reader: &mut RecordReader) -> Next {
+    let place = reader.place;
+    let length = number(reader.bytes, place, 2);
+    let kind = number(reader.bytes, place.saturating_add(2), 2);
+    let (length, kind) = match (length, kind) {
+        (Some(length), Some(kind)) => (length, kind),
+        _ => return Next::Refused { code: 1, place },
+    };
+    if kind > 5 || (kind != 0 && kind < reader.before) {
+        return Next::Refused { code: 2, place };
+    }
+    if length != body_length(kind) {
+        return Next::Refused { code: 3, place };
+    }
+    let length = length as usize;
+    let body = place.saturating_add(4);
+    let end = body.saturating_add(length);
+    if end > reader.bytes.len() {
+        return Next::Refused { code: 1, place };
+    }
+    if kind == 0 {
+        return Next::End;
+    }
+    reader.place = end;
+    reader.before = kind;
+    Next::Record { kind, body, length }
+}
+
+// "A refused reading returns an all-zero chart and a place: the record's first byte for 1 to 7,
+// the first surplus byte for 10, and 0 for 8 and 9. Every accepted call answers 0 for the number;
+// an accepted chart has place 0 and zeros beyond its counts."
+struct Reading {
+    code: Code,
+    place: usize,
+    chart: Chart,
+}
+
+// "A refused reading returns an all-zero chart and a place"
+fn read_chart(bytes: &[u8]) -> Reading {
+    match read_records(bytes) {
+        Ok(chart) => Reading { code: 0, place: 0, chart },
+        Err((code, place)) => Reading { code, place, chart: Chart::default() },
+    }
+}
+
+// "Reading takes records in order and tests each: head (1), 2, 3, body (1), 4, 5, 6, 7. After the
+// end record: 10, 9, 8."
+fn read_records(bytes: &[u8]) -> Result<Chart, (Code, usize)> {
+    let mut reader = RecordReader { bytes, place: 0, before: 0 };
+    let mut chart = Chart::default();
+    loop {
+        let place = reader.place;
+        match next_record(&mut reader) {
+            Next::Refused { code, place } => return Err((code, place)),
+            Next::Record { kind, body, length } => {
+                let body = bytes.get(body..body + length).unwrap_or(&[]);
+                add_record(&mut chart, kind, body).map_err(|code| (code, place))?;
+            }
+            Next::End => {
+                let after = place + 4;
+                if after < bytes.len() {
+                    return Err((10, after));
+                }
+                test_whole(&chart).map_err(|code| (code, 0))?;
+                return Ok(chart);
+            }
+        }
+    }
+}
+
+// "Kinds stand in the order 1, 2, 3, 4, 5"
+fn add_record(chart: &mut Chart, kind: u64, body: &[u8]) -> Result<(), Code> {
+    let mut fields = Fields::new(body);
+    match kind {
+        1 => add_step(chart, &mut fields),
+        2 => add_action(chart, &mut fields),
+        3 => add_transition(chart, &mut fields),
+        4 => add_block(chart, &mut fields),
+        5 => add_case(chart, &mut fields),
+        _ => Err(2),
+    }
+}
+
+// "1 step | 1 | 1 initial, 0 not"; "4 | one more of a kind than its limit"
+fn add_step(chart: &mut Chart, fields: &mut Fields) -> Result<(), Code> {
+    let step = Step { initial: fields.take(1).ok_or(1u64)? as u8 };
+    if chart.steps.len() >= 64 {
+        return Err(4);
+    }
+    test_step(&step)?;
+    chart.steps.push(step);
+    Ok(())
+}
+
+// "2 action | 5 | output 0..31; value, signed 32 bits"; "4 | one more of a kind than its limit"
+fn add_action(chart: &mut Chart, fields: &mut Fields) -> Result<(), Code> {
+    let action = Action {
+        output: fields.take(1).ok_or(1u64)? as u8,
+        value: fields.take(4).ok_or(1u64)? as u32 as i32,
+    };
+    if chart.actions.len() >= 32 {
+        return Err(4);
+    }
+    test_action(&action)?;
+    chart.actions.push(action);
+    Ok(())
+}
+
+// "3 transition | 36 | sources, targets, on, off (64-bit sets, bit k is number k); wait in ms (32
+// bits)"; "4 | one more of a kind than its limit"
+fn add_transition(chart: &mut Chart, fields: &mut Fields) -> Result<(), Code> {
+    let transition = Transition {
+        sources: set_of(fields.take(8).ok_or(1u64)?),
+        targets: set_of(fields.take(8).ok_or(1u64)?),
+        on: set_of(fields.take(8).ok_or(1u64)?),
+        off: set_of(fields.take(8).ok_or(1u64)?),
+        wait: fields.take(4).ok_or(1u64)? as u32,
+    };
+    if chart.transitions.len() >= 64 {
+        return Err(4);
+    }
+    test_transition(&transition, chart.steps.len(), chart.actions.len())?;
+    chart.transitions.push(transition);
+    Ok(())
+}
+
+// "4 block | 7 | step, action, qualifier (a byte each); duration in ms (32 bits)"; "4 | one more
+// of a kind than its limit"
+fn add_block(chart: &mut Chart, fields: &mut Fields) -> Result<(), Code> {
+    let block = Block {
+        step: fields.take(1).ok_or(1u64)? as usize,
+        action: fields.take(1).ok_or(1u64)? as usize,
+        qualifier: fields.take(1).ok_or(1u64)? as u8,
+        duration: fields.take(4).ok_or(1u64)? as u32,
+    };
+    if chart.blocks.len() >= 256 {
+        return Err(4);
+    }
+    test_block(&block, chart.steps.len(), chart.actions.len())?;
+    chart.blocks.push(block);
+    Ok(())
+}
+
+// "5 case | 3 | step, signal 0..63, expected 0 or 1"; "4 | one more of a kind than its limit"
+fn add_case(chart: &mut Chart, fields: &mut Fields) -> Result<(), Code> {
+    let case = Case {
+        step: fields.take(1).ok_or(1u64)? as usize,
+        signal: fields.take(1).ok_or(1u64)? as usize,
+        expected: fields.take(1).ok_or(1u64)? as u8,
+    };
+    if chart.cases.len() >= 64 {
+        return Err(4);
+    }
+    test_case(&case, chart.steps.len(), chart.actions.len())?;
+    chart.cases.push(case);
+    Ok(())
+}
+
+// ---------------------------------------------------------------------------------------------
+// The held chart and the held run
+// ---------------------------------------------------------------------------------------------
+
+// "A chart has 1 to 64 steps, 0 to 32 actions, 0 to 64 transitions, 0 to 256 blocks and 0 to 64
+// cases"; "4 | one more of a kind than its limit" (no steps at all is 9)
+fn test_counts(counts: &Counts) -> Result<(), Code> {
+    if counts.steps > 64 || counts.actions > 32 || counts.transitions > 64 {
+        return Err(4);
+    }
+    if counts.blocks > 256 || counts.cases > 64 {
+        return Err(4);
+    }
+    Ok(())
+}
+
+// "Entries beyond a count play no part."
+fn within_counts(held: &Held) -> Chart {
+    let counts = &held.counts;
+    let tables = &held.tables;
+    Chart {
+        steps: tables.steps.iter().take(counts.steps as usize).cloned().collect(),
+        actions: tables.actions.iter().take(counts.actions as usize).cloned().collect(),
+        transitions: tables.transitions.iter().take(counts.transitions as usize).cloned().collect(),
+        blocks: tables.blocks.iter().take(counts.blocks as usize).cloned().collect(),
+        cases: tables.cases.iter().take(counts.cases as usize).cloned().collect(),
+    }
+}
+
+// "Every call tests it again: 4, then records by kind with 5, 6, 7, then 9, 8. Entries beyond a
+// count play no part."
+fn test_chart(held: &Held) -> Result<Chart, Code> {
+    test_counts(&held.counts)?;
+    let chart = within_counts(held);
+    let steps = chart.steps.len();
+    let actions = chart.actions.len();
+    for step in &chart.steps {
+        test_step(step)?;
+    }
+    for action in &chart.actions {
+        test_action(action)?;
+    }
+    for transition in &chart.transitions {
+        test_transition(transition, steps, actions)?;
+    }
+    for block in &chart.blocks {
+        test_block(block, steps, actions)?;
+    }
+    for case in &chart.cases {
+        test_case(case, steps, actions)?;
+    }
+    test_whole(&chart)?;
+    Ok(chart)
+}
+
+#[derive(Clone, PartialEq)]
+struct Run {
+    clock: u32,
+    active: Set,
+    activity: Set,
+    stored: Set,
+    latched: Set,
+    step_counters: Vec<u32>,
+    action_timers: Vec<u32>,
+    good: Set,
+    bad: Set,
+}
+
+// "A refused start returns an all-zero run"; "... all else 0 ..."
+fn zero_run() -> Run {
+    Run {
+        clock: 0,
+        active: Set::new(),
+        activity: Set::new(),
+        stored: Set::new(),
+        latched: Set::new(),
+        step_counters: vec![0; 64],
+        action_timers: vec![0; 32],
+        good: Set::new(),
+        bad: Set::new(),
+    }
+}
+
+// "step counters of inactive steps and action timers of unlatched actions are 0; none exceeds
+// 86,400,000"
+fn times_belong(times: &[u32], running: &Set) -> bool {
+    let mut belong = true;
+    for (k, time) in times.iter().enumerate() {
+        if *time > LONGEST || (!running.contains(&k) && *time != 0) {
+            belong = false;
+        }
+    }
+    belong
+}
+
+// "A run belongs to a chart if active steps, activity, stored, latched and case marks name only
+// existing numbers; step counters of inactive steps and action timers of unlatched actions are 0;
+// none exceeds 86,400,000."; "12 | a run record that is not one of this chart"
+fn test_run(chart: &Chart, run: &Run) -> Result<(), Code> {
+    let steps = numbers(chart.steps.len());
+    let actions = numbers(chart.actions.len());
+    let cases = numbers(chart.cases.len());
+    let belongs = run.active.is_subset(&steps)
+        && run.activity.is_subset(&actions)
+        && run.stored.is_subset(&actions)
+        && run.latched.is_subset(&actions)
+        && run.good.is_subset(&cases)
+        && run.bad.is_subset(&cases)
+        && times_belong(&run.step_counters, &run.active)
+        && times_belong(&run.action_timers, &run.latched);
+    if belongs {
+        Ok(())
+    } else {
+        Err(12)
+    }
+}
+
+// "15 | the lent outputs are fewer than 32"
+fn test_outputs(outputs: &[i32]) -> Result<(), Code> {
+    if outputs.len() < 32 {
+        return Err(15);
+    }
+    Ok(())
+}
+
+// ---------------------------------------------------------------------------------------------
+// One cycle
+// ---------------------------------------------------------------------------------------------
+
+// "The answer also carries the set of transitions taken (empty at start)."
+struct Answer {
+    code: Code,
+    taken: Set,
+    run: Run,
+}
+
+// "A refused start returns an all-zero run, a refused cycle the run it was given, both with no
+// transition taken"
+fn refusal(code: Code, run: Run) -> Answer {
+    Answer { code, taken: Set::new(), run }
+}
+
+// "Start tests 15 and then the chart"
+fn start(held: &Held, clock: u32, outputs: &mut [i32]) -> Answer {
+    match test_outputs(outputs).and_then(|_| test_chart(held)) {
+        Ok(chart) => Answer { code: 0, taken: Set::new(), run: do_start(&chart, clock, outputs) },
+        Err(code) => refusal(code, zero_run()),
+    }
+}
+
+// "Start makes the initial steps active and entered, none left, all else 0, then does 4 to 6."
+fn do_start(chart: &Chart, clock: u32, outputs: &mut [i32]) -> Run {
+    let initial = initial_steps(chart);
+    let mut run = zero_run();
+    run.active = initial.clone();
+    do_actions(chart, &mut run, &initial, &Set::new());
+    write_outputs(chart, &run.activity, outputs);
+    run.clock = clock;
+    run
+}
+
+// "1 initial, 0 not"
+fn initial_steps(chart: &Chart) -> Set {
+    let steps = chart.steps.iter().enumerate();
+    steps.filter(|(_, step)| step.initial == 1).map(|(k, _)| k).collect()
+}
+
+// "Elapsed time is the new reading of the free-running 32-bit millisecond clock minus the last,
+// modulo 2^32."
+fn elapsed(new: u32, last: u32) -> u32 {
+    new.wrapping_sub(last)
+}
+
+// "11 | elapsed time above 60,000 ms"
+fn test_elapsed(new: u32, last: u32) -> Result<(), Code> {
+    if elapsed(new, last) > 60_000 {
+        return Err(11);
+    }
+    Ok(())
+}
+
+// "a cycle tests 15, chart, 12, 11"
+fn test_cycle(held: &Held, run: &Run, clock: u32, outputs: &[i32]) -> Result<Chart, Code> {
+    test_outputs(outputs)?;
+    let chart = test_chart(held)?;
+    test_run(&chart, run)?;
+    test_elapsed(clock, run.clock)?;
+    Ok(chart)
+}
+
+// "Lent outputs stay untouched by a refusal"; "a refused cycle the run it was given"
+fn cycle(held: &Held, run: &Run, clock: u32, inputs: u32, outputs: &mut [i32]) -> Answer {
+    match test_cycle(held, run, clock, outputs) {
+        Ok(chart) => do_cycle(&chart, run, clock, inputs, outputs),
+        Err(code) => refusal(code, run.clone()),
+    }
+}
+
+// "One cycle", 1 to 6. "The run keeps the clock reading and the activity."
+fn do_cycle(chart: &Chart, given: &Run, clock: u32, inputs: u32, outputs: &mut [i32]) -> Answer {
+    let mut run = given.clone();
+    let signals = signals_of(inputs, &given.activity);
+    grow(&mut run.step_counters, &given.active, elapsed(clock, given.clock));
+    grow(&mut run.action_timers, &given.latched, elapsed(clock, given.clock));
+    let taken = take_transitions(chart, &run, &signals);
+    let left = sources_of(chart, &taken);
+    let entered = targets_of(chart, &taken);
+    move_steps(&mut run, &left, &entered);
+    mark_cases(chart, &mut run, &left, &signals);
+    do_actions(chart, &mut run, &entered, &left);
+    write_outputs(chart, &run.activity, outputs);
+    run.clock = clock;
+    Answer { code: 0, taken, run }
+}
+
+// "Signals 0..31 are the cycle's inputs; signal 32+k is the activity of action k as the previous
+// call left it."
+fn signals_of(inputs: u32, activity: &Set) -> Set {
+    let mut signals = set_of(u64::from(inputs));
+    signals.extend(activity.iter().map(|k| 32 + k));
+    signals
+}
+
+// "Every step counter of an active step and every timer of a latched action grows by it, stopping
+// at 86,400,000."
+fn grow(times: &mut [u32], running: &Set, by: u32) {
+    for k in running {
+        let grown = at(times, *k).saturating_add(by).min(LONGEST);
+        put(times, *k, grown);
+    }
+}
+
+// "Transitions are taken in number order. One is taken if all its sources were active at the
+// cycle's beginning and are not a source of one already taken; every "on" signal is 1 and every
+// "off" signal 0; each source's counter has reached the wait; each target was inactive at the
+// beginning and is not a target of one already taken."
+fn take_transitions(chart: &Chart, run: &Run, signals: &Set) -> Set {
+    let mut taken = Set::new();
+    for (k, transition) in chart.transitions.iter().enumerate() {
+        let reached = |step: &usize| at(&run.step_counters, *step) >= transition.wait;
+        if transition.sources.is_subset(&run.active)
+            && transition.sources.is_disjoint(&sources_of(chart, &taken))
+            && transition.on.is_subset(signals)
+            && transition.off.is_disjoint(signals)
+            && transition.sources.iter().all(reached)
+            && transition.targets.is_disjoint(&run.active)
+            && transition.targets.is_disjoint(&targets_of(chart, &taken))
+        {
+            taken.insert(k);
+        }
+    }
+    taken
+}
+
+// "Sources of taken transitions are left"
+fn sources_of(chart: &Chart, taken: &Set) -> Set {
+    let mut sources = Set::new();
+    for transition in taken.iter().filter_map(|k| chart.transitions.get(*k)) {
+        sources.extend(&transition.sources);
+    }
+    sources
+}
+
+// "Sources of taken transitions are left, targets entered."
+fn targets_of(chart: &Chart, taken: &Set) -> Set {
+    let mut targets = Set::new();
+    for transition in taken.iter().filter_map(|k| chart.transitions.get(*k)) {
+        targets.extend(&transition.targets);
+    }
+    targets
+}
+
+// "Sources of taken transitions are left, targets entered. A step entered or inactive has counter
+// 0."
+fn move_steps(run: &mut Run, left: &Set, entered: &Set) {
+    run.active = run.active.difference(left).copied().collect();
+    run.active.extend(entered);
+    for step in 0..64 {
+        if entered.contains(&step) || !run.active.contains(&step) {
+            put(&mut run.step_counters, step, 0);
+        }
+    }
+}
+
+// "For each case on a left step, the signal of this cycle is compared: equal sets its good mark,
+// different its bad mark."
+fn mark_cases(chart: &Chart, run: &mut Run, left: &Set, signals: &Set) {
+    for (k, case) in chart.cases.iter().enumerate() {
+        if left.contains(&case.step) {
+            if signals.contains(&case.signal) == (case.expected == 1) {
+                run.good.insert(k);
+            } else {
+                run.bad.insert(k);
+            }
+        }
+    }
+}
+
+// "Actions, from the steps now active." "A reset action is inactive." "The run keeps ... the
+// activity."
+fn do_actions(chart: &Chart, run: &mut Run, entered: &Set, left: &Set) {
+    let mut activity = Set::new();
+    for action in 0..chart.actions.len() {
+        let reset = is_reset(chart, run, action);
+        if reset {
+            clear_action(run, action);
+        } else {
+            set_and_latch(chart, run, action);
+        }
+        if !reset && is_active(chart, run, action, entered, left) {
+            activity.insert(action);
+        }
+    }
+    run.activity = activity;
+}
+
+// "4 block | 7 | step, action, qualifier (a byte each); duration in ms" (the blocks of one action
+// with their qualifiers)
+fn blocks_of(chart: &Chart, action: usize) -> Vec<(&Block, Qualifier)> {
+    let mut blocks = Vec::new();
+    for block in chart.blocks.iter().filter(|block| block.action == action) {
+        if let Some(qualifier) = qualifier_of(block.qualifier) {
+            blocks.push((block, qualifier));
+        }
+    }
+    blocks
+}
+
+// ""Reset": some active step has an R block for it."
+fn is_reset(chart: &Chart, run: &Run, action: usize) -> bool {
+    let blocks = blocks_of(chart, action);
+    blocks.iter().any(|(block, q)| *q == Qualifier::R && run.active.contains(&block.step))
+}
+
+// "With reset, stored and latch are cleared and the timer is 0."
+fn clear_action(run: &mut Run, action: usize) {
+    run.stored.remove(&action);
+    run.latched.remove(&action);
+    put(&mut run.action_timers, action, 0);
+}
+
+// "Without reset, an active S block, or an active DS block whose step counter has reached its
+// duration, sets stored; an active SD or SL block latches, and a fresh latch has timer 0."
+fn set_and_latch(chart: &Chart, run: &mut Run, action: usize) {
+    for (block, qualifier) in blocks_of(chart, action) {
+        if !run.active.contains(&block.step) {
+            continue;
+        }
+        let counter = at(&run.step_counters, block.step);
+        let sets = match qualifier {
+            Qualifier::S => true,
+            Qualifier::DS => counter >= block.duration,
+            _ => false,
+        };
+        if sets {
+            run.stored.insert(action);
+        }
+        let latches = qualifier == Qualifier::SD || qualifier == Qualifier::SL;
+        if latches && run.latched.insert(action) {
+            put(&mut run.action_timers, action, 0);
+        }
+    }
+}
+
+// "Without reset an action is active if it is stored, or ..."
+fn is_active(chart: &Chart, run: &Run, action: usize, entered: &Set, left: &Set) -> bool {
+    let blocks = blocks_of(chart, action);
+    run.stored.contains(&action)
+        || blocks.iter().any(|(block, q)| block_activates(run, block, *q, entered, left))
+}
+
+// "... or an active step has an N block, an L block with counter below its duration or a D block
+// with counter at or above it; or SD is latched with timer at or above its duration; or SL is
+// latched with timer below it; or P1 and the step was entered; or P0 and the step was left; or P
+// and either."
+fn block_activates(run: &Run, block: &Block, q: Qualifier, entered: &Set, left: &Set) -> bool {
+    let active = run.active.contains(&block.step);
+    let counter = at(&run.step_counters, block.step);
+    let latched = run.latched.contains(&block.action);
+    let timer = at(&run.action_timers, block.action);
+    let entered = entered.contains(&block.step);
+    let left = left.contains(&block.step);
+    match q {
+        Qualifier::N => active,
+        Qualifier::L => active && counter < block.duration,
+        Qualifier::D => active && counter >= block.duration,
+        Qualifier::SD => latched && timer >= block.duration,
+        Qualifier::SL => latched && timer < block.duration,
+        Qualifier::P1 => entered,
+        Qualifier::P0 => left,
+        Qualifier::P => entered || left,
+        Qualifier::R | Qualifier::S | Qualifier::DS => false,
+    }
+}
+
+// "Each output gets the value of its first active action in the table, else 0."; "an accepted call
+// writes the first 32 and no others"
+fn write_outputs(chart: &Chart, activity: &Set, outputs: &mut [i32]) {
+    for output in 0..32 {
+        let mut actions = chart.actions.iter().enumerate();
+        let first = actions
+            .find(|(k, action)| activity.contains(k) && usize::from(action.output) == output);
+        let value = first.map_or(0, |(_, action)| action.value);
+        put(outputs, output, value);
+    }
+}
+
+// ---------------------------------------------------------------------------------------------
+// Tally and weighing
+// ---------------------------------------------------------------------------------------------
+
+#[derive(Clone, Copy, PartialEq)]
+struct Tally {
+    code: Code,
+    passed: u64,
+    failed: u64,
+    notrun: u64,
+}
+
+// "the tally chart, 12"; "a refused tally three zeros"
+fn tally(held: &Held, run: &Run) -> Tally {
+    let mut answer = Tally { code: 0, passed: 0, failed: 0, notrun: 0 };
+    let tested = test_chart(held).and_then(|chart| test_run(&chart, run).map(|_| chart));
+    match tested {
+        Ok(chart) => count_marks(&chart, run, &mut answer),
+        Err(code) => answer.code = code,
+    }
+    answer
+}
+
+// "Tally: failed if the bad mark is set; passed if only the good mark is; otherwise not run. The
+// three counts are read from the marks."
+fn count_marks(chart: &Chart, run: &Run, answer: &mut Tally) {
+    for case in 0..chart.cases.len() {
+        if run.bad.contains(&case) {
+            answer.failed += 1;
+        } else if run.good.contains(&case) {
+            answer.passed += 1;
+        } else {
+            answer.notrun += 1;
+        }
+    }
+}
+
+#[derive(Clone, Copy, PartialEq)]
+struct Weighing {
+    code: Code,
+    transition: u64,
+    total: u64,
+}
+
+// "the weighing chart, 13, 14"; "a refused weighing total 0"; "The transition it names is 0 unless
+// the answer is 14."
+fn weighing(held: &Held, weights: &[u16]) -> Weighing {
+    match test_chart(held) {
+        Ok(chart) if chart.steps.len() != weights.len() => refused_weighing(13, 0),
+        Ok(chart) => weigh(&chart, weights),
+        Err(code) => refused_weighing(code, 0),
+    }
+}
+
+// "a refused weighing total 0"
+fn refused_weighing(code: Code, transition: u64) -> Weighing {
+    Weighing { code, transition, total: 0 }
+}
+
+// "The weighing adds unsigned 16-bit weights over sources, targets and initial steps and returns
+// the initial total."; "14 | unbalanced; the first such transition is named"
+fn weigh(chart: &Chart, weights: &[u16]) -> Weighing {
+    for (k, transition) in chart.transitions.iter().enumerate() {
+        if weight_of(&transition.sources, weights) != weight_of(&transition.targets, weights) {
+            return refused_weighing(14, k as u64);
+        }
+    }
+    let total = weight_of(&initial_steps(chart), weights);
+    Weighing { code: 0, transition: 0, total }
+}
+
+// "The weighing adds unsigned 16-bit weights"
+fn weight_of(steps: &Set, weights: &[u16]) -> u64 {
+    steps.iter().map(|step| u64::from(at(weights, *step))).sum()
+}
+
+// ---------------------------------------------------------------------------------------------
+// The printed run
+// ---------------------------------------------------------------------------------------------
+
+enum Call {
+    Start { clock: u32 },
+    Cycle { clock: u32, inputs: u32 },
+}
+
+// "one start record (kind 17, body 4: clock) and then cycle records (kind 16, body 8: clock,
+// inputs), framed as in the chart file"; "16 | a trace record is cut, unknown, of wrong length,
+// begins at byte 65,528 or later, or a start record is not exactly the first" (nothing for these)
+fn trace_record(trace: &[u8], place: usize) -> Option<Call> {
+    if place >= 65_528 {
+        return None;
+    }
+    let length = number(trace, place, 2)?;
+    let kind = number(trace, place + 2, 2)?;
+    match (kind, length) {
+        (17, 4) if place == 0 => {
+            let clock = number(trace, place + 4, 4)? as u32;
+            Some(Call::Start { clock })
+        }
+        (16, 8) if place != 0 => {
+            let clock = number(trace, place + 4, 4)? as u32;
+            let inputs = number(trace, place + 8, 4)? as u32;
+            Some(Call::Cycle { clock, inputs })
+        }
+        _ => None,
+    }
+}
+
+// "Program bench-run reads the file chart.bin and a trace on standard input"; "A chart file that
+// can't be opened counts as empty; of a longer one the first 65,536 bytes are read, and they
+// decide"; "A bad chart prints `refused chart` and the code ... stop there."
+fn bench_run(file: Option<&[u8]>, trace: &[u8]) -> Vec<u8> {
+    let file = file.unwrap_or(&[]);
+    let file = file.get(..65_536).unwrap_or(file);
+    let reading = read_chart(file);
+    if reading.code != 0 {
+        return format!("refused chart {}\n", reading.code).into_bytes();
+    }
+    print_calls(&hold(&reading.chart), trace).into_bytes()
+}
+
+// "Calls, refused ones too, are numbered from 0."; "a bad trace record `refused trace 16`; both
+// stop there. Otherwise the tally ends the run"; "ended by the end of input"; "A refused cycle
+// prints its number, `refused` and the code, and the run goes on."
+fn print_calls(held: &Held, trace: &[u8]) -> String {
+    let mut text = String::new();
+    let mut run = zero_run();
+    let mut outputs = vec![0; 32];
+    let mut place = 0;
+    let mut call_number: u64 = 0;
+    while place < trace.len() {
+        let answer = match trace_record(trace, place) {
+            None => {
+                text.push_str("refused trace 16\n");
+                return text;
+            }
+            Some(Call::Start { clock }) => {
+                place += 8;
+                start(held, clock, &mut outputs)
+            }
+            Some(Call::Cycle { clock, inputs }) => {
+                place += 12;
+                cycle(held, &run, clock, inputs, &mut outputs)
+            }
+        };
+        text.push_str(&call_line(call_number, &answer));
+        run = answer.run;
+        call_number += 1;
+    }
+    text.push_str(&tally_line(&tally(held, &run)));
+    text
+}
+
+// "Per accepted call it prints its number (decimal), active steps (16 hex digits), activity (8),
+// taken (16), with single spaces. Lower-case hex; each line ends in byte 10. A refused cycle prints
+// its number, `refused` and the code"
+fn call_line(call_number: u64, answer: &Answer) -> String {
+    if answer.code != 0 {
+        return format!("{} refused {}\n", call_number, answer.code);
+    }
+    let active = word_of(&answer.run.active);
+    let activity = word_of(&answer.run.activity);
+    let taken = word_of(&answer.taken);
+    format!("{} {:016x} {:08x} {:016x}\n", call_number, active, activity, taken)
+}
+
+// "one line of `passed`, `failed` and `notrun`, each followed by its count in decimal, with single
+// spaces"
+fn tally_line(tally: &Tally) -> String {
+    format!("passed {} failed {} notrun {}\n", tally.passed, tally.failed, tally.notrun)
+}
+
+// ---------------------------------------------------------------------------------------------
+// The command line (not spoken of in document 01)
+// ---------------------------------------------------------------------------------------------
+
+// For the command line: one case of `print`, and what is printed for it.
+fn print_case(input: &mut Fields) -> Option<Vec<u8>> {
+    let length = input.take(4)?;
+    let file = if length == 4_294_967_295 { None } else { Some(input.slice(length as usize)?) };
+    let length = input.take(4)?;
+    let trace = input.slice(length as usize)?;
+    let printed = bench_run(file, trace);
+    let mut output = (printed.len() as u32).to_le_bytes().to_vec();
+    output.extend(printed);
+    Some(output)
+}
+
+// For the command line: one case of `read`. "A refused reading returns an all-zero chart and a
+// place"
+fn read_case(input: &mut Fields) -> Option<Vec<u8>> {
+    let length = input.take(4)?;
+    let reading = read_chart(input.slice(length as usize)?);
+    let counts = hold(&reading.chart).counts;
+    let line = [
+        reading.code,
+        reading.place as u64,
+        counts.steps,
+        counts.actions,
+        counts.transitions,
+        counts.blocks,
+        counts.cases,
+    ];
+    Some(line_of(line.iter()))
+}
+
+// For the command line: numbers in decimal with single spaces.
+fn line_of<T: ToString>(values: impl Iterator<Item = T>) -> Vec<u8> {
+    let words: Vec<String> = values.map(|value| value.to_string()).collect();
+    (words.join(" ") + "\n").into_bytes()
+}
+
+// For the command line: a chart image.
+fn chart_image(input: &mut Fields) -> Option<Held> {
+    let counts = Counts {
+        steps: input.take(8)?,
+        actions: input.take(8)?,
+        transitions: input.take(8)?,
+        blocks: input.take(8)?,
+        cases: input.take(8)?,
+    };
+    let initial = input.column(64, 1)?;
+    let output = input.column(32, 1)?;
+    let value = input.column(32, 4)?;
+    let step = |k| Step { initial: at(&initial, k) as u8 };
+    let action =
+        |k| Action { output: at(&output, k) as u8, value: at(&value, k) as u32 as i32 };
+    let tables = Chart {
+        steps: (0..64).map(step).collect(),
+        actions: (0..32).map(action).collect(),
+        transitions: transitions_image(input)?,
+        blocks: blocks_image(input)?,
+        cases: cases_image(input)?,
+    };
+    Some(Held { counts, tables })
+}
+
+// For the command line: the transitions of a chart image.
+fn transitions_image(input: &mut Fields) -> Option<Vec<Transition>> {
+    let sources = input.column(64, 8)?;
+    let targets = input.column(64, 8)?;
+    let on = input.column(64, 8)?;
+    let off = input.column(64, 8)?;
+    let wait = input.column(64, 4)?;
+    let transition = |k| Transition {
+        sources: set_of(at(&sources, k)),
+        targets: set_of(at(&targets, k)),
+        on: set_of(at(&on, k)),
+        off: set_of(at(&off, k)),
+        wait: at(&wait, k) as u32,
+    };
+    Some((0..64).map(transition).collect())
+}
+
+// For the command line: the blocks of a chart image.
+fn blocks_image(input: &mut Fields) -> Option<Vec<Block>> {
+    let step = input.column(256, 1)?;
+    let action = input.column(256, 1)?;
+    let qualifier = input.column(256, 1)?;
+    let duration = input.column(256, 4)?;
+    let block = |k| Block {
+        step: at(&step, k) as usize,
+        action: at(&action, k) as usize,
+        qualifier: at(&qualifier, k) as u8,
+        duration: at(&duration, k) as u32,
+    };
+    Some((0..256).map(block).collect())
+}
+
+// For the command line: the cases of a chart image.
+fn cases_image(input: &mut Fields) -> Option<Vec<Case>> {
+    let step = input.column(64, 1)?;
+    let signal = input.column(64, 1)?;
+    let expected = input.column(64, 1)?;
+    let case = |k| Case {
+        step: at(&step, k) as usize,
+        signal: at(&signal, k) as usize,
+        expected: at(&expected, k) as u8,
+    };
+    Some((0..64).map(case).collect())
+}
+
+// For the command line: a run image. Every set keeps all 64 numbers, so that a refused cycle can
+// give back "the run it was given".
+fn run_image(input: &mut Fields) -> Option<Run> {
+    let clock = input.take(4)? as u32;
+    let active = set_of(input.take(8)?);
+    let activity = set_of(input.take(8)?);
+    let stored = set_of(input.take(8)?);
+    let latched = set_of(input.take(8)?);
+    let step_counters = input.column(64, 4)?.iter().map(|time| *time as u32).collect();
+    let action_timers = input.column(32, 4)?.iter().map(|time| *time as u32).collect();
+    let good = set_of(input.take(8)?);
+    let bad = set_of(input.take(8)?);
+    Some(Run { clock, active, activity, stored, latched, step_counters, action_timers, good, bad })
+}
+
+// For the command line: one case of `held`, and its line.
+fn held_case(input: &mut Fields) -> Option<Vec<u8>> {
+    let held = chart_image(input)?;
+    let run = run_image(input)?;
+    let kind = input.take(1)?;
+    let clock = input.take(4)? as u32;
+    let inputs = input.take(4)? as u32;
+    let lent = input.take(1)? as i32;
+    let weights = input.take(1)? as usize;
+    let weights: Vec<u16> = input.column(weights, 2)?.iter().map(|w| *w as u16).collect();
+    let mut outputs: Vec<i32> = (0..lent).map(|k| 1000 + k).collect();
+    let line = match kind {
+        0 => answer_line(&start(&held, clock, &mut outputs), &outputs),
+        1 => answer_line(&cycle(&held, &run, clock, inputs, &mut outputs), &outputs),
+        2 => {
+            let answer = tally(&held, &run);
+            line_of([answer.code, answer.passed, answer.failed, answer.notrun].iter())
+        }
+        3 => {
+            let answer = weighing(&held, &weights);
+            line_of([answer.code, answer.transition, answer.total].iter())
+        }
+        _ => b"unknown call\n".to_vec(),
+    };
+    Some(line)
+}
+
+// For the command line: the line of a start or a cycle.
+fn answer_line(answer: &Answer, outputs: &[i32]) -> Vec<u8> {
+    let run = &answer.run;
+    let words = [
+        answer.code,
+        word_of(&answer.taken),
+        u64::from(run.clock),
+        word_of(&run.active),
+        word_of(&run.activity),
+        word_of(&run.stored),
+        word_of(&run.latched),
+        word_of(&run.good),
+        word_of(&run.bad),
+    ];
+    let mut values: Vec<i128> = words.iter().map(|word| i128::from(*word)).collect();
+    values.extend(run.step_counters.iter().map(|time| i128::from(*time)));
+    values.extend(run.action_timers.iter().map(|time| i128::from(*time)));
+    values.extend(outputs.iter().map(|value| i128::from(*value)));
+    line_of(values.iter())
+}
+
+// For the command line: all cases of standard input, until its end or a cut case.
+fn all_cases(one: fn(&mut Fields) -> Option<Vec<u8>>) {
+    let mut bytes = Vec::new();
+    let _ = std::io::stdin().lock().read_to_end(&mut bytes);
+    let mut input = Fields::new(&bytes);
+    let mut output = Vec::new();
+    while let Some(printed) = one(&mut input) {
+        output.extend(printed);
+    }
+    say(&output);
+}
+
+// For the command line: writes to standard output.
+fn say(bytes: &[u8]) {
+    let mut stdout = std::io::stdout().lock();
+    let _ = stdout.write_all(bytes);
+    let _ = stdout.flush();
+}
+
+// For the command line: the mode is the first argument.
+fn main() {
+    let mode = std::env::args_os().nth(1).unwrap_or_default();
+    match mode.to_str() {
+        Some("print") => all_cases(print_case),
+        Some("read") => all_cases(read_case),
+        Some("held") => all_cases(held_case),
+        Some("selftest") => selftest(),
+        _ => {
+            say(b"use: second print | read | held | selftest\n");
+            std::process::exit(2);
+        }
+    }
+}
+
+// ---------------------------------------------------------------------------------------------
+// The selftest: files and traces, written record by record
+// ---------------------------------------------------------------------------------------------
+
+// "A file is a run of records: a two-byte body length, a two-byte kind, the body"
+fn record(kind: u16, body: &[u8]) -> Vec<u8> {
+    let mut bytes = (body.len() as u16).to_le_bytes().to_vec();
+    bytes.extend(kind.to_le_bytes());
+    bytes.extend(body);
+    bytes
+}
+
+// "1 step | 1 | 1 initial, 0 not"
+fn step(initial: u8) -> Vec<u8> {
+    record(1, &[initial])
+}
+
+// "2 action | 5 | output 0..31; value, signed 32 bits"
+fn action(output: u8, value: i32) -> Vec<u8> {
+    let mut body = vec![output];
+    body.extend(value.to_le_bytes());
+    record(2, &body)
+}
+
+// "3 transition | 36 | sources, targets, on, off (64-bit sets, bit k is number k); wait in ms"
+fn transition(sources: u64, targets: u64, on: u64, off: u64, wait: u32) -> Vec<u8> {
+    let mut body = Vec::new();
+    for word in [sources, targets, on, off].iter() {
+        body.extend(word.to_le_bytes());
+    }
+    body.extend(wait.to_le_bytes());
+    record(3, &body)
+}
+
+// "4 block | 7 | step, action, qualifier (a byte each); duration in ms (32 bits)"
+fn block(step: u8, action: u8, qualifier: u8, duration: u32) -> Vec<u8> {
+    let mut body = vec![step, action, qualifier];
+    body.extend(duration.to_le_bytes());
+    record(4, &body)
+}
+
+// "5 case | 3 | step, signal 0..63, expected 0 or 1"
+fn case(step: u8, signal: u8, expected: u8) -> Vec<u8> {
+    record(5, &[step, signal, expected])
+}
+
+// "then one end record (kind 0, no body)"
+fn end() -> Vec<u8> {
+    record(0, &[])
+}
+
+// "one start record (kind 17, body 4: clock)"
+fn start_record(clock: u32) -> Vec<u8> {
+    record(17, &clock.to_le_bytes())
+}
+
+// "cycle records (kind 16, body 8: clock, inputs)"
+fn cycle_record(clock: u32, inputs: u32) -> Vec<u8> {
+    let mut body = clock.to_le_bytes().to_vec();
+    body.extend(inputs.to_le_bytes());
+    record(16, &body)
+}
+
+// "Chart A (152 bytes): steps 0 (initial) and 1; actions 0 (output 0, value 120) and 1 (output 0,
+// value 7); transition 0 from 0 to 1 on input 0; transition 1 from 1 to 0 on input 1, wait 500;
+// blocks step 1 N action 0, step 1 S action 1, step 0 R action 1; one case: step 1, signal 1,
+// expected 1."
+fn chart_a() -> Vec<u8> {
+    [
+        step(1),
+        step(0),
+        action(0, 120),
+        action(0, 7),
+        transition(1, 2, 1, 0, 0),
+        transition(2, 1, 2, 0, 500),
+        block(1, 0, 0, 0),
+        block(1, 1, 2, 0),
+        block(0, 1, 1, 0),
+        case(1, 1, 1),
+        end(),
+    ]
+    .concat()
+}
+
+// "Chart A ..." (held)
+fn held_a() -> Held {
+    hold(&read_chart(&chart_a()).chart)
+}
+
+// A chart of records without the end record, held.
+fn held_of(records: &[Vec<u8>]) -> Held {
+    let file = [records.concat(), end()].concat();
+    hold(&read_chart(&file).chart)
+}
+
+// One start and then cycles, each with clock and inputs; the last answer and its outputs.
+fn played(held: &Held, clock: u32, cycles: &[(u32, u32)]) -> (Answer, Vec<i32>) {
+    let mut outputs = vec![5; 34];
+    let mut answer = start(held, clock, &mut outputs);
+    for (clock, inputs) in cycles {
+        answer = cycle(held, &answer.run, *clock, *inputs, &mut outputs);
+    }
+    (answer, outputs)
+}
+
+// The code of the answer, the taken transitions, the active steps and the activity after play.
+fn seen(held: &Held, clock: u32, cycles: &[(u32, u32)]) -> (Code, u64, u64, u64) {
+    let (answer, _) = played(held, clock, cycles);
+    let run = &answer.run;
+    (answer.code, word_of(&answer.taken), word_of(&run.active), word_of(&run.activity))
+}
+
+struct Bench {
+    passed: u64,
+}
+
+impl Bench {
+    // One check; the first that fails ends the selftest with exit code 1.
+    fn check(&mut self, name: &str, holds: bool) {
+        if !holds {
+            say(format!("failed: {} (after {} passed)\n", name, self.passed).as_bytes());
+            std::process::exit(1);
+        }
+        self.passed += 1;
+    }
+
+    // A reading with its number and place; a refused one has an all-zero chart.
+    fn reads(&mut self, name: &str, file: &[Vec<u8>], code: Code, place: usize) {
+        let reading = read_chart(&file.concat());
+        let counts = hold(&reading.chart).counts;
+        let sum =
+            counts.steps + counts.actions + counts.transitions + counts.blocks + counts.cases;
+        let right = reading.code == code && reading.place == place;
+        self.check(name, right && (code == 0 || sum == 0) && (code != 0 || sum != 0));
+    }
+
+    // A bench-run with chart A and what it prints.
+    fn prints(&mut self, name: &str, trace: &[Vec<u8>], printed: &str) {
+        let output = bench_run(Some(&chart_a()), &trace.concat());
+        self.check(name, output == printed.as_bytes());
+    }
+}
+
+// Runs all checks and says how many passed.
+fn selftest() {
+    let mut bench = Bench { passed: 0 };
+    check_framing(&mut bench);
+    check_limits(&mut bench);
+    check_ranges(&mut bench);
+    check_sets(&mut bench);
+    check_ends(&mut bench);
+    check_next_record(&mut bench);
+    check_held_counts(&mut bench);
+    check_held_entries(&mut bench);
+    check_held_order(&mut bench);
+    check_run_names(&mut bench);
+    check_run_times(&mut bench);
+    check_call_order(&mut bench);
+    check_chart_a(&mut bench);
+    check_clock(&mut bench);
+    check_cap(&mut bench);
+    check_timed(&mut bench);
+    check_latches(&mut bench);
+    check_pulses(&mut bench);
+    check_conflicts(&mut bench);
+    check_signals(&mut bench);
+    check_outputs(&mut bench);
+    check_tally(&mut bench);
+    check_weighing(&mut bench);
+    check_printed(&mut bench);
+    check_printed_refusals(&mut bench);
+    check_trace_length(&mut bench);
+    say(format!("selftest: {} passed\n", bench.passed).as_bytes());
+}
+
+// ---------------------------------------------------------------------------------------------
+// The selftest: the reader
+// ---------------------------------------------------------------------------------------------
+
+// Rows 1, 2 and 3, with "head (1), 2, 3, body (1)"; "Empty file: 1, place 0."
+fn check_framing(b: &mut Bench) {
+    b.reads("empty file", &[], 1, 0);
+    b.reads("three bytes", &[vec![1, 0, 1]], 1, 0);
+    b.reads("no end record", &[step(1)], 1, 5);
+    b.reads("end record cut", &[step(1), vec![0, 0, 0]], 1, 5);
+    b.reads("body cut", &[step(1), vec![5, 0, 2, 0, 0, 0, 0, 0]], 1, 5);
+    b.reads("body missing", &[vec![1, 0, 1, 0]], 1, 0);
+    b.reads("kind 6", &[step(1), record(6, &[])], 2, 5);
+    b.reads("kind 256", &[step(1), record(256, &[])], 2, 5);
+    b.reads("kind 1 after 2", &[step(1), action(0, 0), step(0), end()], 2, 14);
+    b.reads("2 before 3", &[step(1), record(6, &[1, 2])], 2, 5);
+    b.reads("2 before 3, smaller", &[step(1), action(0, 0), vec![9, 0, 1, 0]], 2, 14);
+    b.reads("step of 2", &[record(1, &[1, 0]), end()], 3, 0);
+    b.reads("step of 0", &[record(1, &[]), end()], 3, 0);
+    b.reads("action of 4", &[step(1), record(2, &[0; 4]), end()], 3, 5);
+    b.reads("transition of 35", &[step(1), record(3, &[0; 35]), end()], 3, 5);
+    b.reads("block of 8", &[step(1), record(4, &[0; 8]), end()], 3, 5);
+    b.reads("case of 2", &[step(1), record(5, &[0; 2]), end()], 3, 5);
+    b.reads("end of 1", &[step(1), record(0, &[0])], 3, 5);
+    b.reads("3 before the cut body", &[vec![2, 0, 1, 0]], 3, 0);
+    b.reads("one step", &[step(1), end()], 0, 0);
+    b.check("chart A has 152 bytes", chart_a().len() == 152);
+    b.reads("chart A", &[chart_a()], 0, 0);
+    let counts = held_a().counts;
+    let all =
+        [counts.steps, counts.actions, counts.transitions, counts.blocks, counts.cases];
+    b.check("chart A counts", all == [2, 2, 2, 3, 1]);
+}
+
+// Row 4; "64 steps accepted, a 65th refused 4."; "an accepted chart has at most 6,436"
+fn check_limits(b: &mut Bench) {
+    let steps = |count: usize| step(1).repeat(count);
+    let actions = |count: usize| action(31, -1).repeat(count);
+    let transitions = |count: usize| transition(1, 2, 0, 0, 0).repeat(count);
+    let blocks = |count: usize| block(0, 0, 0, 0).repeat(count);
+    let cases = |count: usize| case(0, 0, 0).repeat(count);
+    b.reads("64 steps", &[steps(64), end()], 0, 0);
+    b.reads("65 steps", &[steps(65), end()], 4, 320);
+    b.reads("4 before 5", &[steps(64), step(2), end()], 4, 320);
+    b.reads("cut body before 4", &[steps(64), vec![1, 0, 1, 0]], 1, 320);
+    b.reads("3 before 4", &[steps(64), record(1, &[1, 1]), end()], 3, 320);
+    b.reads("33 actions", &[steps(1), actions(33), end()], 4, 293);
+    b.reads("65 transitions", &[steps(2), transitions(65), end()], 4, 2570);
+    b.reads("257 blocks", &[steps(1), actions(1), blocks(257), end()], 4, 2830);
+    b.reads("65 cases", &[steps(1), cases(65), end()], 4, 453);
+    let full =
+        [steps(64), actions(32), transitions(64), blocks(256), cases(64), end()].concat();
+    b.check("fullest chart has 6,436 bytes", full.len() == 6436);
+    b.reads("fullest chart", &[full], 0, 0);
+}
+
+// Row 5: "a field outside its stated range"
+fn check_ranges(b: &mut Bench) {
+    let two = || [step(1), step(0)].concat();
+    let with_action = || [step(1), step(0), action(0, 0)].concat();
+    let longest = 86_400_000;
+    b.reads("initial 2", &[step(1), step(2), end()], 5, 5);
+    b.reads("output 32", &[step(1), action(32, 0), end()], 5, 5);
+    b.reads("output 31, least value", &[step(1), action(31, i32::MIN), end()], 0, 0);
+    b.reads("source 2", &[two(), transition(4, 2, 0, 0, 0), end()], 5, 10);
+    b.reads("target 63", &[two(), transition(1, 1 << 63, 0, 0, 0), end()], 5, 10);
+    b.reads("on 32, no action", &[two(), transition(1, 2, 1 << 32, 0, 0), end()], 5, 10);
+    b.reads("off 33, one action", &[with_action(), transition(1, 2, 0, 1 << 33, 0), end()], 5, 19);
+    b.reads("on 32, one action", &[with_action(), transition(1, 2, 1 << 32, 0, 0), end()], 0, 0);
+    b.reads("all inputs", &[two(), transition(1, 2, 0xffff_ffff, 0, 0), end()], 0, 0);
+    b.reads("wait too long", &[two(), transition(1, 2, 0, 0, longest + 1), end()], 5, 10);
+    b.reads("longest wait", &[two(), transition(1, 2, 0, 0, longest), end()], 0, 0);
+    b.reads("block step 2", &[with_action(), block(2, 0, 0, 0), end()], 5, 19);
+    b.reads("block action 1", &[with_action(), block(0, 1, 0, 0), end()], 5, 19);
+    b.reads("qualifier 11", &[with_action(), block(0, 0, 11, 0), end()], 5, 19);
+    b.reads("duration too long", &[with_action(), block(0, 0, 3, longest + 1), end()], 5, 19);
+    for timed in [3, 4, 6, 7, 8].iter() {
+        b.reads("longest duration", &[with_action(), block(0, 0, *timed, longest), end()], 0, 0);
+        b.reads("timed, duration 0", &[with_action(), block(0, 0, *timed, 0), end()], 0, 0);
+    }
+    for untimed in [0, 1, 2, 5, 9, 10].iter() {
+        b.reads("untimed, duration 1", &[with_action(), block(0, 0, *untimed, 1), end()], 5, 19);
+        b.reads("untimed, duration 0", &[with_action(), block(0, 0, *untimed, 0), end()], 0, 0);
+    }
+    b.reads("case step 2", &[two(), case(2, 0, 0), end()], 5, 10);
+    b.reads("case signal 32, no action", &[two(), case(0, 32, 0), end()], 5, 10);
+    b.reads("case signal 64", &[with_action(), case(0, 64, 0), end()], 5, 19);
+    b.reads("case signal 31", &[two(), case(0, 31, 1), end()], 0, 0);
+    b.reads("case signal 32, one action", &[with_action(), case(0, 32, 1), end()], 0, 0);
+    b.reads("expected 2", &[two(), case(0, 0, 2), end()], 5, 10);
+}
+
+// Rows 6 and 7, with "4, 5, 6, 7"
+fn check_sets(b: &mut Bench) {
+    let two = || [step(1), step(0)].concat();
+    b.reads("no source", &[two(), transition(0, 2, 0, 0, 0), end()], 6, 10);
+    b.reads("no target", &[two(), transition(1, 0, 0, 0, 0), end()], 6, 10);
+    b.reads("source and target", &[two(), transition(3, 2, 0, 0, 0), end()], 6, 10);
+    b.reads("on and off", &[two(), transition(1, 2, 5, 4, 0), end()], 7, 10);
+    b.reads("5 before 6", &[two(), transition(0, 4, 0, 0, 0), end()], 5, 10);
+    b.reads("5 (wait) before 6", &[two(), transition(0, 2, 0, 0, u32::MAX), end()], 5, 10);
+    b.reads("5 (off) before 7", &[two(), transition(1, 2, 1 << 63, 1 << 63, 0), end()], 5, 10);
+    b.reads("6 before 7", &[two(), transition(1, 1, 1, 1, 0), end()], 6, 10);
+    let seven = transition(1, 2, 1, 1, 0);
+    let six = transition(0, 2, 0, 0, 0);
+    b.reads("first record first", &[two(), seven, six, end()], 7, 10);
+}
+
+// Rows 8, 9 and 10, with "After the end record: 10, 9, 8."
+fn check_ends(b: &mut Bench) {
+    let base = || [step(1), action(0, 0), action(1, 0)].concat();
+    b.reads("two timed", &[base(), block(0, 1, 3, 5), block(0, 1, 6, 5), end()], 8, 0);
+    b.reads("two equal timed", &[base(), block(0, 0, 4, 0), block(0, 0, 4, 0), end()], 8, 0);
+    b.reads("timed on two actions", &[base(), block(0, 0, 3, 5), block(0, 1, 3, 5), end()], 0, 0);
+    b.reads("timed and untimed", &[base(), block(0, 0, 0, 0), block(0, 0, 8, 5), end()], 0, 0);
+    b.reads("no steps", &[end()], 9, 0);
+    b.reads("no initial step", &[step(0), step(0), end()], 9, 0);
+    b.reads("surplus byte", &[step(1), end(), vec![0]], 10, 9);
+    b.reads("second end record", &[step(1), end(), end()], 10, 9);
+    b.reads("10 before 9", &[end(), vec![7]], 10, 4);
+    let timed = || block(0, 0, 3, 5);
+    b.reads("9 before 8", &[step(0), action(0, 0), timed(), timed(), end()], 9, 0);
+    b.reads("10 before 8", &[step(1), action(0, 0), timed(), timed(), end(), vec![1]], 10, 40);
+    b.reads("end after kind 1", &[step(1), end()], 0, 0);
+    b.reads("end after kind 5", &[step(1), case(0, 0, 0), end()], 0, 0);
+}
+
+// "After the end or a refusal it doesn't move, and asking again answers the same. A place beyond
+// the bytes answers 1."
+fn check_next_record(b: &mut Bench) {
+    let file = [step(2), action(99, 0), end()].concat();
+    let mut reader = RecordReader { bytes: &file, place: 0, before: 0 };
+    let first = Next::Record { kind: 1, body: 4, length: 1 };
+    let second = Next::Record { kind: 2, body: 9, length: 5 };
+    b.check("first record", next_record(&mut reader) == first);
+    b.check("second record", next_record(&mut reader) == second);
+    b.check("the end", next_record(&mut reader) == Next::End);
+    b.check("the end again", next_record(&mut reader) == Next::End);
+    let file = [step(1), record(6, &[])].concat();
+    let mut reader = RecordReader { bytes: &file, place: 0, before: 0 };
+    let refused = Next::Refused { code: 2, place: 5 };
+    b.check("record before the refusal", next_record(&mut reader) == first);
+    b.check("a refusal", next_record(&mut reader) == refused);
+    b.check("a refusal again", next_record(&mut reader) == refused);
+    for place in [10, usize::MAX].iter() {
+        let mut reader = RecordReader { bytes: &file, place: *place, before: 0 };
+        let beyond = Next::Refused { code: 1, place: *place };
+        b.check("place beyond the bytes", next_record(&mut reader) == beyond);
+    }
+}
+
+// ---------------------------------------------------------------------------------------------
+// The selftest: held charts and runs
+// ---------------------------------------------------------------------------------------------
+
+// The number that the test of a held chart gives, 0 if accepted.
+fn held_code(held: &Held) -> Code {
+    test_chart(held).err().unwrap_or(0)
+}
+
+// Row 4 for a held chart, and 9 for one without steps
+fn check_held_counts(b: &mut Bench) {
+    b.check("held chart A", held_code(&held_a()) == 0);
+    for beyond in [0u64, 1000, u64::MAX - 256].iter() {
+        let mut held = held_a();
+        held.counts.steps = 65 + beyond;
+        b.check("held steps", held_code(&held) == 4);
+        let mut held = held_a();
+        held.counts.actions = 33 + beyond;
+        b.check("held actions", held_code(&held) == 4);
+        let mut held = held_a();
+        held.counts.transitions = 65 + beyond;
+        b.check("held transitions", held_code(&held) == 4);
+        let mut held = held_a();
+        held.counts.cases = 65 + beyond;
+        b.check("held cases", held_code(&held) == 4);
+        let mut held = held_a();
+        held.counts.blocks = beyond.saturating_add(257);
+        b.check("held blocks", held_code(&held) == 4);
+    }
+    let mut held = hold(&Chart::default());
+    b.check("held chart without steps", held_code(&held) == 9);
+    held.counts.cases = 65;
+    b.check("4 before 9", held_code(&held) == 4);
+    let mut held = held_a();
+    held.counts.steps = 0;
+    b.check("held transition without steps", held_code(&held) == 5);
+}
+
+// "Entries beyond a count play no part."
+fn check_held_entries(b: &mut Bench) {
+    let mut held = held_a();
+    held.tables.steps.push(Step { initial: 77 });
+    held.tables.actions.push(Action { output: 32, value: 1 });
+    let sets = set_of(u64::MAX);
+    held.tables.transitions.push(Transition {
+        sources: sets.clone(),
+        targets: sets.clone(),
+        on: sets.clone(),
+        off: sets,
+        wait: u32::MAX,
+    });
+    held.tables.blocks.push(Block { step: 255, action: 255, qualifier: 255, duration: 1 });
+    held.tables.cases.push(Case { step: 255, signal: 255, expected: 255 });
+    b.check("entries beyond the counts", held_code(&held) == 0);
+    b.check("a cycle beside them", seen(&held, 1000, &[(1010, 1)]) == (0, 1, 2, 3));
+    let mut more = held.clone();
+    more.counts.steps = 3;
+    b.check("a third step", held_code(&more) == 5);
+    let mut more = held.clone();
+    more.counts.actions = 3;
+    b.check("a third action", held_code(&more) == 5);
+    let mut more = held.clone();
+    more.counts.transitions = 3;
+    b.check("a third transition", held_code(&more) == 5);
+    let mut more = held.clone();
+    more.counts.blocks = 4;
+    b.check("a fourth block", held_code(&more) == 5);
+    more.counts.blocks = 3;
+    more.counts.cases = 2;
+    b.check("a second case", held_code(&more) == 5);
+}
+
+// "4, then records by kind with 5, 6, 7, then 9, 8"
+fn check_held_order(b: &mut Bench) {
+    let transition = |sources, targets, on, off| Transition {
+        sources: set_of(sources),
+        targets: set_of(targets),
+        on: set_of(on),
+        off: set_of(off),
+        wait: 0,
+    };
+    let mut held = held_a();
+    held.tables.transitions = vec![transition(1, 2, 1, 1), transition(0, 2, 0, 0)];
+    b.check("held 7", held_code(&held) == 7);
+    held.tables.cases = vec![Case { step: 9, signal: 0, expected: 0 }];
+    b.check("held 7 before a later kind's 5", held_code(&held) == 7);
+    held.tables.transitions = vec![transition(1, 2, 1, 0), transition(0, 2, 1, 1)];
+    b.check("held 6", held_code(&held) == 6);
+    held.tables.steps = vec![Step { initial: 0 }, Step { initial: 0 }];
+    b.check("held 6 before 9", held_code(&held) == 6);
+    held.tables.steps = vec![Step { initial: 0 }, Step { initial: 3 }];
+    b.check("held 5 of a step first", held_code(&held) == 5);
+    held.counts.steps = u64::MAX;
+    b.check("held 4 before all", held_code(&held) == 4);
+    let mut held = held_a();
+    let timed = Block { step: 0, action: 0, qualifier: 3, duration: 9 };
+    held.tables.blocks = vec![timed.clone(), timed.clone(), timed];
+    b.check("held 8", held_code(&held) == 8);
+    held.tables.steps = vec![Step { initial: 0 }, Step { initial: 0 }];
+    b.check("held 9 before 8", held_code(&held) == 9);
+}
+
+// The numbers that a cycle at the run's clock and a tally give for a run of chart A; a refused
+// cycle returns the run it was given.
+fn run_codes(run: &Run) -> (Code, Code) {
+    let mut outputs = vec![3; 32];
+    let answer = cycle(&held_a(), run, run.clock, 0, &mut outputs);
+    let kept = answer.run == *run && answer.taken.is_empty() && outputs == vec![3; 32];
+    if answer.code != 0 && !kept {
+        return (99, 99);
+    }
+    (answer.code, tally(&held_a(), run).code)
+}
+
+// Row 12: "active steps, activity, stored, latched and case marks name only existing numbers"
+fn check_run_names(b: &mut Bench) {
+    let run = zero_run();
+    b.check("the all-zero run belongs", run_codes(&run) == (0, 0));
+    for beyond in [2, 32, 63].iter() {
+        let mut run = zero_run();
+        run.active = [*beyond].iter().copied().collect();
+        b.check("active step", run_codes(&run) == (12, 12));
+        let mut run = zero_run();
+        run.activity = [*beyond].iter().copied().collect();
+        b.check("activity", run_codes(&run) == (12, 12));
+        let mut run = zero_run();
+        run.stored = [*beyond].iter().copied().collect();
+        b.check("stored", run_codes(&run) == (12, 12));
+        let mut run = zero_run();
+        run.latched = [*beyond].iter().copied().collect();
+        b.check("latched", run_codes(&run) == (12, 12));
+        let mut run = zero_run();
+        run.good = [*beyond].iter().copied().collect();
+        b.check("good mark", run_codes(&run) == (12, 12));
+        let mut run = zero_run();
+        run.bad = [*beyond - 1].iter().copied().collect();
+        b.check("bad mark", run_codes(&run) == (12, 12));
+    }
+    let mut run = zero_run();
+    run.active = numbers(2);
+    run.activity = numbers(2);
+    run.stored = numbers(2);
+    run.latched = numbers(2);
+    run.good = numbers(1);
+    run.bad = numbers(1);
+    b.check("everything that exists", run_codes(&run) == (0, 0));
+}
+
+// Row 12: "step counters of inactive steps and action timers of unlatched actions are 0; none
+// exceeds 86,400,000"
+fn check_run_times(b: &mut Bench) {
+    let mut run = zero_run();
+    put(&mut run.step_counters, 1, 1);
+    b.check("counter of an inactive step", run_codes(&run) == (12, 12));
+    run.active = numbers(2);
+    b.check("counter of an active step", run_codes(&run) == (0, 0));
+    put(&mut run.step_counters, 1, 86_400_000);
+    b.check("longest counter", run_codes(&run) == (0, 0));
+    put(&mut run.step_counters, 1, 86_400_001);
+    b.check("counter too long", run_codes(&run) == (12, 12));
+    let mut run = zero_run();
+    put(&mut run.action_timers, 1, 1);
+    b.check("timer of an unlatched action", run_codes(&run) == (12, 12));
+    run.latched = numbers(2);
+    b.check("timer of a latched action", run_codes(&run) == (0, 0));
+    put(&mut run.action_timers, 1, 86_400_000);
+    b.check("longest timer", run_codes(&run) == (0, 0));
+    put(&mut run.action_timers, 1, 86_400_001);
+    b.check("timer too long", run_codes(&run) == (12, 12));
+    let mut run = zero_run();
+    put(&mut run.step_counters, 63, 1);
+    b.check("counter of no step", run_codes(&run) == (12, 12));
+    let mut run = zero_run();
+    put(&mut run.action_timers, 31, 1);
+    b.check("timer of no action", run_codes(&run) == (12, 12));
+}
+
+// Rows 11, 12 and 15: "Start tests 15 and then the chart; a cycle tests 15, chart, 12, 11";
+// "A refused start returns an all-zero run"; "Lent outputs stay untouched by a refusal"
+fn check_call_order(b: &mut Bench) {
+    let mut broken = held_a();
+    broken.counts.steps = 65;
+    let mut strange = zero_run();
+    strange.active = numbers(3);
+    let mut few = vec![8; 31];
+    let mut enough = vec![8; 32];
+    let answer = start(&broken, 7, &mut few);
+    b.check("start: 15 first", answer.code == 15 && answer.run == zero_run());
+    let answer = start(&broken, 7, &mut enough);
+    b.check("start: then the chart", answer.code == 4 && answer.run == zero_run());
+    let answer = start(&held_a(), 7, &mut few);
+    b.check("start: only 15", answer.code == 15 && answer.run == zero_run());
+    let answer = cycle(&broken, &strange, 60_001, 1, &mut few);
+    b.check("cycle: 15 first", answer.code == 15 && answer.run == strange);
+    let answer = cycle(&broken, &strange, 60_001, 1, &mut enough);
+    b.check("cycle: then the chart", answer.code == 4 && answer.run == strange);
+    let answer = cycle(&held_a(), &strange, 60_001, 1, &mut enough);
+    b.check("cycle: then 12", answer.code == 12 && answer.run == strange);
+    let answer = cycle(&held_a(), &zero_run(), 60_001, 1, &mut enough);
+    b.check("cycle: then 11", answer.code == 11 && answer.run == zero_run());
+    b.check("outputs untouched", few == vec![8; 31] && enough == vec![8; 32]);
+    b.check("tally: the chart first", tally(&broken, &strange).code == 4);
+    let zeros = Tally { code: 12, passed: 0, failed: 0, notrun: 0 };
+    b.check("tally: then 12", tally(&held_a(), &strange) == zeros);
+}
+
+// ---------------------------------------------------------------------------------------------
+// The selftest: the cycle
+// ---------------------------------------------------------------------------------------------
+
+// "Chart A, last clock 1509: no transition, activity 3, case not run."; "Chart A, call 1: output 0
+// is 120, by table order."; the trace of chart A
+fn check_chart_a(b: &mut Bench) {
+    let held = held_a();
+    b.check("chart A, call 0", seen(&held, 1000, &[]) == (0, 0, 1, 0));
+    b.check("chart A, call 1", seen(&held, 1000, &[(1010, 1)]) == (0, 1, 2, 3));
+    b.check("chart A, call 2", seen(&held, 1000, &[(1010, 1), (1510, 2)]) == (0, 2, 1, 0));
+    let (answer, _) = played(&held, 1000, &[(1010, 1), (1510, 2)]);
+    let one = Tally { code: 0, passed: 1, failed: 0, notrun: 0 };
+    b.check("chart A, tally", tally(&held, &answer.run) == one);
+    b.check("chart A, last 1509", seen(&held, 1000, &[(1010, 1), (1509, 2)]) == (0, 0, 2, 3));
+    let (answer, _) = played(&held, 1000, &[(1010, 1), (1509, 2)]);
+    let none = Tally { code: 0, passed: 0, failed: 0, notrun: 1 };
+    b.check("chart A, last 1509, tally", tally(&held, &answer.run) == none);
+    b.check("chart A, last 1509, stored", word_of(&answer.run.stored) == 2);
+    b.check("chart A, last 1509, counter", at(&answer.run.step_counters, 1) == 499);
+    let (_, outputs) = played(&held, 1000, &[(1010, 1)]);
+    b.check("chart A, call 1, output", at(&outputs, 0) == 120 && at(&outputs, 1) == 0);
+    let (_, outputs) = played(&held, 1000, &[(1010, 1), (1510, 2)]);
+    b.check("chart A, call 2, output", at(&outputs, 0) == 0);
+    let (_, outputs) = played(&held, 1000, &[]);
+    b.check("first 32 outputs", outputs == [vec![0; 32], vec![5; 2]].concat());
+    b.check("without input nothing moves", seen(&held, 0, &[(10, 2), (20, 0)]) == (0, 0, 1, 0));
+}
+
+// "Last clock 4,294,967,000, new 200: elapsed 496."; "Elapsed 60,000 accepted; 60,001 refused 11;
+// clock one back refused 11."
+fn check_clock(b: &mut Bench) {
+    let held = held_a();
+    b.check("elapsed 496", elapsed(200, 4_294_967_000) == 496);
+    let (answer, _) = played(&held, 4_294_967_000, &[(200, 0)]);
+    b.check("counter 496", at(&answer.run.step_counters, 0) == 496 && answer.run.clock == 200);
+    b.check("elapsed 60,000", seen(&held, 5, &[(60_005, 0)]).0 == 0);
+    b.check("elapsed 60,001", seen(&held, 5, &[(60_006, 1)]) == (11, 0, 1, 0));
+    b.check("one back", seen(&held, 5, &[(4, 1)]) == (11, 0, 1, 0));
+    b.check("one back over the turn", seen(&held, 0, &[(u32::MAX, 1)]) == (11, 0, 1, 0));
+    b.check("elapsed 0", seen(&held, 5, &[(5, 1)]) == (0, 1, 2, 3));
+    let (answer, outputs) = played(&held, 5, &[(60_006, 1)]);
+    b.check("a refusal keeps the clock", answer.run.clock == 5 && at(&outputs, 0) == 0);
+    b.check("and the run goes on", seen(&held, 5, &[(60_006, 1), (6, 1)]) == (0, 1, 2, 3));
+}
+
+// "... grows by it, stopping at 86,400,000"
+fn check_cap(b: &mut Bench) {
+    let held = held_of(&[step(1), action(0, 1), block(0, 0, 6, 86_400_000)]);
+    let mut run = zero_run();
+    run.active = numbers(1);
+    run.latched = numbers(1);
+    put(&mut run.step_counters, 0, 86_399_999);
+    put(&mut run.action_timers, 0, 86_399_998);
+    let mut outputs = vec![0; 32];
+    let first = cycle(&held, &run, 1, 0, &mut outputs).run;
+    b.check("counter reaches the cap", at(&first.step_counters, 0) == 86_400_000);
+    b.check("timer stays its own", at(&first.action_timers, 0) == 86_399_999);
+    b.check("not yet active", first.activity.is_empty());
+    let second = cycle(&held, &first, 60_001, 0, &mut outputs).run;
+    b.check("counter stops at the cap", at(&second.step_counters, 0) == 86_400_000);
+    b.check("timer stops at the cap", at(&second.action_timers, 0) == 86_400_000);
+    b.check("now active", word_of(&second.activity) == 1);
+}
+
+// "L 100: counter 99 active, 100 not. D 100: 99 not, 100 active."; DS by "an active DS block whose
+// step counter has reached its duration, sets stored"
+fn check_timed(b: &mut Bench) {
+    let one = |qualifier, duration| {
+        held_of(&[step(1), action(0, 1), block(0, 0, qualifier, duration)])
+    };
+    b.check("L 100 at start", seen(&one(3, 100), 0, &[]).3 == 1);
+    b.check("L 100 at 99", seen(&one(3, 100), 0, &[(99, 0)]).3 == 1);
+    b.check("L 100 at 100", seen(&one(3, 100), 0, &[(100, 0)]).3 == 0);
+    b.check("L 0", seen(&one(3, 0), 0, &[]).3 == 0);
+    b.check("D 100 at start", seen(&one(4, 100), 0, &[]).3 == 0);
+    b.check("D 100 at 99", seen(&one(4, 100), 0, &[(99, 0)]).3 == 0);
+    b.check("D 100 at 100", seen(&one(4, 100), 0, &[(100, 0)]).3 == 1);
+    b.check("D 0", seen(&one(4, 0), 0, &[]).3 == 1);
+    b.check("DS 100 at 99", seen(&one(7, 100), 0, &[(99, 0)]).3 == 0);
+    b.check("DS 100 at 100", seen(&one(7, 100), 0, &[(100, 0)]).3 == 1);
+    b.check("DS 0", seen(&one(7, 0), 0, &[]).3 == 1);
+    let away = |qualifier| {
+        let to_one = transition(1, 2, 1, 0, 0);
+        held_of(&[step(1), step(0), action(0, 1), to_one, block(0, 0, qualifier, 100)])
+    };
+    b.check("DS left early", seen(&away(7), 0, &[(99, 1), (300, 0)]).3 == 0);
+    b.check("DS left late", seen(&away(7), 0, &[(100, 0), (110, 1), (300, 0)]).3 == 1);
+    b.check("DS left just when it was due", seen(&away(7), 0, &[(100, 1)]).3 == 0);
+    b.check("L left", seen(&away(3), 0, &[(10, 1)]).3 == 0);
+    b.check("D left", seen(&away(4), 0, &[(200, 0), (210, 1)]).3 == 0);
+}
+
+// "SD 0 is active when latched; SL 0 never."; "Restarting SL when its step is entered again: only a
+// reset clears the latch."; "Letting S win over R in one cycle."
+fn check_latches(b: &mut Bench) {
+    let one = |qualifier, duration| {
+        let there = transition(1, 2, 1, 0, 0);
+        let back = transition(2, 1, 2, 0, 0);
+        let away = transition(1, 4, 4, 0, 0);
+        let blocks = [block(0, 0, qualifier, duration), block(2, 0, 1, 0)].concat();
+        held_of(&[step(1), step(0), step(0), action(0, 1), there, back, away, blocks])
+    };
+    b.check("SD 0 at start", seen(&one(6, 0), 0, &[]).3 == 1);
+    b.check("SL 0 at start", seen(&one(8, 0), 0, &[]).3 == 0);
+    b.check("SL 0 later", seen(&one(8, 0), 0, &[(5, 0)]).3 == 0);
+    b.check("SD 100 at 99", seen(&one(6, 100), 0, &[(99, 0)]).3 == 0);
+    b.check("SD 100 at 100", seen(&one(6, 100), 0, &[(100, 0)]).3 == 1);
+    b.check("SD 100, step left", seen(&one(6, 100), 0, &[(50, 1), (100, 0)]).3 == 1);
+    b.check("SD reset", seen(&one(6, 100), 0, &[(100, 0), (101, 4)]) == (0, 4, 4, 0));
+    b.check("SL 100 at 99", seen(&one(8, 100), 0, &[(50, 1), (99, 0)]).3 == 1);
+    b.check("SL 100 at 100", seen(&one(8, 100), 0, &[(50, 1), (100, 0)]).3 == 0);
+    b.check("SL entered again", seen(&one(8, 100), 0, &[(50, 1), (120, 2)]) == (0, 2, 1, 0));
+    let (answer, _) = played(&one(8, 100), 0, &[(50, 1), (90, 0), (95, 4)]);
+    b.check("no R block's step, no reset", answer.run.latched.len() == 1);
+    let (answer, _) = played(&one(8, 100), 0, &[(50, 1), (60, 2), (70, 4)]);
+    b.check("reset clears the latch", answer.run.latched.is_empty());
+    b.check("and its timer", at(&answer.run.action_timers, 0) == 0);
+    let both = held_of(&[step(1), action(0, 1), block(0, 0, 2, 0), block(0, 0, 1, 0)]);
+    b.check("R wins over S", seen(&both, 0, &[]).3 == 0);
+    let both = held_of(&[step(1), action(0, 1), block(0, 0, 0, 0), block(0, 0, 1, 0)]);
+    b.check("R wins over N", seen(&both, 0, &[(1, 0)]).3 == 0);
+    let both = held_of(&[step(1), action(0, 1), block(0, 0, 6, 0), block(0, 0, 1, 0)]);
+    b.check("R wins over SD", played(&both, 0, &[]).0.run.latched.is_empty());
+    let none = held_of(&[step(1), action(0, 1)]);
+    b.check("no block, no activity", seen(&none, 0, &[(1, 1)]).3 == 0);
+}
+
+// "or P1 and the step was entered; or P0 and the step was left; or P and either"; "Start makes the
+// initial steps active and entered, none left"
+fn check_pulses(b: &mut Bench) {
+    let actions = [action(0, 1), action(1, 1), action(2, 1)].concat();
+    let blocks = [block(0, 0, 5, 0), block(0, 1, 9, 0), block(0, 2, 10, 0)].concat();
+    let moves = [transition(1, 2, 1, 0, 0), transition(2, 1, 2, 0, 0)].concat();
+    let held = held_of(&[step(1), step(0), actions, moves, blocks]);
+    b.check("pulses at start", seen(&held, 0, &[]).3 == 3);
+    b.check("pulses are over", seen(&held, 0, &[(0, 0)]).3 == 0);
+    b.check("pulses at leaving", seen(&held, 0, &[(0, 1)]).3 == 5);
+    b.check("pulses after leaving", seen(&held, 0, &[(0, 1), (0, 0)]).3 == 0);
+    b.check("pulses at entering", seen(&held, 0, &[(0, 1), (0, 2)]).3 == 3);
+    let blocks = [block(0, 0, 10, 0), block(1, 0, 1, 0)].concat();
+    let away = transition(1, 2, 1, 0, 0);
+    let held = held_of(&[step(1), step(0), action(0, 1), away, blocks]);
+    b.check("a reset P0", seen(&held, 0, &[(0, 1)]) == (0, 1, 2, 0));
+}
+
+// "Steps 0 and 1 initial, 0→2 and 1→2 both true: only the first is taken, and the next cycle takes
+// none."; "Testing a source against the half-updated step set: a chain of steps then runs through
+// in one cycle. A target so tested lets a step left in this cycle be entered in it."
+fn check_conflicts(b: &mut Bench) {
+    let moves = [transition(1, 4, 0, 0, 0), transition(2, 4, 0, 0, 0)].concat();
+    let held = held_of(&[step(1), step(1), step(0), moves]);
+    b.check("only the first", seen(&held, 0, &[(1, 0)]) == (0, 1, 6, 0));
+    b.check("then none", seen(&held, 0, &[(1, 0), (2, 0)]) == (0, 0, 6, 0));
+    let moves = [transition(1, 2, 0, 0, 0), transition(1, 4, 0, 0, 0)].concat();
+    let held = held_of(&[step(1), step(0), step(0), moves]);
+    b.check("one source, first target", seen(&held, 0, &[(1, 0)]) == (0, 1, 2, 0));
+    let moves = [transition(1, 2, 0, 0, 0), transition(2, 4, 0, 0, 0)].concat();
+    let held = held_of(&[step(1), step(0), step(0), moves]);
+    b.check("a chain, one step a cycle", seen(&held, 0, &[(1, 0)]) == (0, 1, 2, 0));
+    b.check("a chain, the next", seen(&held, 0, &[(1, 0), (2, 0)]) == (0, 2, 4, 0));
+    let moves = [transition(1, 4, 0, 0, 0), transition(2, 1, 0, 0, 0)].concat();
+    let held = held_of(&[step(1), step(1), step(0), moves]);
+    b.check("no entering of a left step", seen(&held, 0, &[(1, 0)]) == (0, 1, 6, 0));
+    let moves = [transition(1, 6, 0, 0, 0), transition(6, 1, 1, 0, 10)].concat();
+    let held = held_of(&[step(1), step(0), step(0), moves]);
+    b.check("a fork", seen(&held, 0, &[(1, 0)]) == (0, 1, 6, 0));
+    b.check("a join too early", seen(&held, 0, &[(1, 0), (10, 1)]) == (0, 0, 6, 0));
+    b.check("a join", seen(&held, 0, &[(1, 0), (11, 1)]) == (0, 2, 1, 0));
+    let held = held_of(&[step(1), step(0), step(0), transition(3, 4, 0, 0, 0)]);
+    b.check("a join with one source", seen(&held, 0, &[(1, 0)]) == (0, 0, 1, 0));
+}
+
+// "signal 32+k is the activity of action k as the previous call left it"; "Reading a case from the
+// cycle after the step was left."
+fn check_signals(b: &mut Bench) {
+    let moves = transition(1, 2, 1 << 32, 0, 0);
+    let held = held_of(&[step(1), step(0), action(0, 1), moves, block(0, 0, 4, 10)]);
+    b.check("not active before", seen(&held, 0, &[(10, 0)]) == (0, 0, 1, 1));
+    b.check("active before", seen(&held, 0, &[(10, 0), (11, 0)]) == (0, 1, 2, 0));
+    let off = transition(1, 2, 0, 1 | 1 << 32, 0);
+    let held = held_of(&[step(1), step(0), action(0, 1), off, block(0, 0, 9, 0)]);
+    b.check("off, still active", seen(&held, 0, &[(1, 0)]) == (0, 0, 1, 0));
+    b.check("off, inactive, input 0 on", seen(&held, 0, &[(1, 0), (2, 1)]) == (0, 0, 1, 0));
+    b.check("off, inactive", seen(&held, 0, &[(1, 0), (2, 0)]) == (0, 1, 2, 0));
+    let moves = transition(1, 2, 1, 0, 0);
+    let cases = [case(0, 32, 1), case(0, 1, 1), case(0, 1, 0), case(1, 0, 1)].concat();
+    let held = held_of(&[step(1), step(0), action(0, 1), moves, block(0, 0, 0, 0), cases]);
+    let (answer, _) = played(&held, 0, &[(1, 1), (2, 2)]);
+    b.check("good marks", word_of(&answer.run.good) == 5);
+    b.check("bad marks", word_of(&answer.run.bad) == 2);
+    let counts = Tally { code: 0, passed: 2, failed: 1, notrun: 1 };
+    b.check("their tally", tally(&held, &answer.run) == counts);
+}
+
+// "Each output gets the value of its first active action in the table, else 0."
+fn check_outputs(b: &mut Bench) {
+    let actions = [action(3, 9), action(3, -7), action(3, 8), action(31, i32::MIN)].concat();
+    let blocks = [block(0, 2, 0, 0), block(0, 1, 0, 0), block(0, 3, 0, 0)].concat();
+    let held = held_of(&[step(1), actions, blocks]);
+    let (answer, outputs) = played(&held, 0, &[]);
+    b.check("activity of three", word_of(&answer.run.activity) == 14);
+    b.check("first active action", at(&outputs, 3) == -7);
+    b.check("least value", at(&outputs, 31) == i32::MIN);
+    b.check("no action", at(&outputs, 0) == 0 && at(&outputs, 30) == 0);
+    b.check("no others written", at(&outputs, 32) == 5 && at(&outputs, 33) == 5);
+}
+
+// ---------------------------------------------------------------------------------------------
+// The selftest: tally, weighing, the printed run
+// ---------------------------------------------------------------------------------------------
+
+// "failed if the bad mark is set; passed if only the good mark is; otherwise not run"; "Counting a
+// step that is still active as passed."
+fn check_tally(b: &mut Bench) {
+    let held = held_of(&[step(1), case(0, 0, 1), case(0, 0, 1), case(0, 0, 1), case(0, 0, 1)]);
+    let mut run = zero_run();
+    let counts = |passed, failed, notrun| Tally { code: 0, passed, failed, notrun };
+    b.check("no marks", tally(&held, &run) == counts(0, 0, 4));
+    run.good = set_of(3);
+    run.bad = set_of(6);
+    b.check("marks", tally(&held, &run) == counts(1, 2, 1));
+    run.good = set_of(15);
+    run.bad = set_of(15);
+    b.check("both marks", tally(&held, &run) == counts(0, 4, 0));
+    let (answer, _) = played(&held, 0, &[(1, 1), (2, 1)]);
+    b.check("a step still active", tally(&held, &answer.run) == counts(0, 0, 4));
+}
+
+// Rows 13 and 14; "Fork 0→{1,2}, weights 2,1,1, 0 initial: total 2, so 0 and 1 are never together;
+// weights 2,1,2 refused 14, transition 0."
+fn check_weighing(b: &mut Bench) {
+    let answer = |code, transition, total| Weighing { code, transition, total };
+    let fork = held_of(&[step(1), step(0), step(0), transition(1, 6, 0, 0, 0)]);
+    b.check("fork 2,1,1", weighing(&fork, &[2, 1, 1]) == answer(0, 0, 2));
+    b.check("fork 2,1,2", weighing(&fork, &[2, 1, 2]) == answer(14, 0, 0));
+    b.check("two weights", weighing(&fork, &[2, 1]) == answer(13, 0, 0));
+    b.check("four weights", weighing(&fork, &[2, 1, 1, 0]) == answer(13, 0, 0));
+    b.check("13 before 14", weighing(&fork, &[]) == answer(13, 0, 0));
+    let moves = [transition(1, 6, 0, 0, 0), transition(1, 2, 0, 0, 0), transition(4, 1, 0, 0, 0)];
+    let held = held_of(&[step(1), step(1), step(0), moves.concat()]);
+    b.check("first unbalanced is 1", weighing(&held, &[3, 1, 2]) == answer(14, 1, 0));
+    b.check("first unbalanced is 2", weighing(&held, &[3, 3, 0]) == answer(14, 2, 0));
+    b.check("balanced by zeros", weighing(&held, &[0, 0, 0]) == answer(0, 0, 0));
+    let sixty_four = held_of(&[step(1).repeat(64)]);
+    let most = vec![u16::MAX; 64];
+    b.check("most weight", weighing(&sixty_four, &most) == answer(0, 0, 4_194_240));
+    let mut broken = fork.clone();
+    broken.counts.blocks = 257;
+    b.check("the chart first", weighing(&broken, &[1]) == answer(4, 0, 0));
+}
+
+// The printed run of chart A; "An empty trace prints the tally alone, all cases not run."
+fn check_printed(b: &mut Bench) {
+    let began = "0 0000000000000001 00000000 0000000000000000\n";
+    let first = "1 0000000000000002 00000003 0000000000000001\n";
+    let second = "2 0000000000000001 00000000 0000000000000002\n";
+    let passed = "passed 1 failed 0 notrun 0\n";
+    let notrun = "passed 0 failed 0 notrun 1\n";
+    let trace = [start_record(1000), cycle_record(1010, 1), cycle_record(1510, 2)];
+    b.prints("chart A's trace", &trace, &[began, first, second, passed].concat());
+    b.prints("empty trace", &[], notrun);
+    b.prints("start alone", &[start_record(0)], &[began, notrun].concat());
+    let trace = [start_record(1000), cycle_record(999, 1), cycle_record(1010, 1)];
+    let printed = [began, "1 refused 11\n", "2 0000000000000002 00000003 0000000000000001\n"];
+    b.prints("a refused cycle", &trace, &[&printed.concat(), notrun].concat());
+    let full = [step(1).repeat(64), action(0, 0).repeat(32)].concat();
+    let blocks: Vec<Vec<u8>> = (0..32).map(|k| block(63, k, 0, 0)).collect();
+    let file = [full, blocks.concat(), end()].concat();
+    let printed = "0 ffffffffffffffff ffffffff 0000000000000000\npassed 0 failed 0 notrun 0\n";
+    b.check("all hex digits", bench_run(Some(&file), &start_record(9)) == printed.as_bytes());
+}
+
+// Row 16; "A chart file that can't be opened counts as empty; of a longer one the first 65,536
+// bytes are read, and they decide"
+fn check_printed_refusals(b: &mut Bench) {
+    let began = "0 0000000000000001 00000000 0000000000000000\n";
+    let refused = "refused trace 16\n";
+    let both = [began, refused].concat();
+    let good = || start_record(0);
+    b.prints("trace head cut", &[vec![4, 0, 17]], refused);
+    b.prints("start cut", &[vec![4, 0, 17, 0, 1, 2, 3]], refused);
+    b.prints("cycle first", &[cycle_record(0, 0)], refused);
+    b.prints("second start", &[good(), start_record(0)], &both);
+    b.prints("cycle cut", &[good(), vec![8, 0, 16, 0, 0, 0, 0, 0, 0, 0, 0]], &both);
+    b.prints("cycle head cut", &[good(), vec![8]], &both);
+    b.prints("unknown kind", &[good(), record(15, &[0; 8])], &both);
+    b.prints("kind 0", &[good(), record(0, &[])], &both);
+    b.prints("start of 8", &[record(17, &[0; 8])], refused);
+    b.prints("cycle of 4", &[good(), record(16, &[0; 4])], &both);
+    b.prints("stops there", &[good(), record(16, &[]), cycle_record(0, 0)], &both);
+    b.check("no file", bench_run(None, &good()) == b"refused chart 1\n");
+    b.check("empty file", bench_run(Some(&[]), &good()) == b"refused chart 1\n");
+    b.check("chart first", bench_run(Some(&end()), &[1]) == b"refused chart 9\n");
+    let surplus = [chart_a(), vec![0]].concat();
+    b.check("surplus byte", bench_run(Some(&surplus), &good()) == b"refused chart 10\n");
+    let long = [chart_a(), vec![0; 70_000]].concat();
+    b.check("long file", bench_run(Some(&long), &[]) == b"refused chart 10\n");
+}
+
+// Row 16: "begins at byte 65,528 or later"; 8 + 12 * 5,460 = 65,528
+fn check_trace_length(b: &mut Bench) {
+    let most = [start_record(0), cycle_record(0, 0).repeat(5460)].concat();
+    b.check("longest trace", most.len() == 65_528);
+    let text = String::from_utf8(bench_run(Some(&chart_a()), &most)).unwrap_or_default();
+    b.check("longest trace, lines", text.lines().count() == 5462);
+    b.check("longest trace, tally", text.ends_with("\npassed 0 failed 0 notrun 1\n"));
+    let more = [most, cycle_record(0, 0)].concat();
+    let text = String::from_utf8(bench_run(Some(&chart_a()), &more)).unwrap_or_default();
+    let last = "\n5460 0000000000000001 00000000 0000000000000000\nrefused trace 16\n";
+    b.check("one record more", text.lines().count() == 5462 && text.ends_with(last));
+}
