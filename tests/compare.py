@@ -16,6 +16,7 @@ import struct
 import subprocess
 import sys
 import tempfile
+import textwrap
 from collections import Counter
 from concurrent.futures import ThreadPoolExecutor
 from pathlib import Path
@@ -96,21 +97,23 @@ def sizes(rng):
 
 def times(rng):
     """The waits and durations of one chart: few different ones, so that several end together."""
-    return [0, 1, rng.randint(2, 99), rng.randint(100, 5000), rng.choice((60_000, rng.randint(5000, 59_999), rng.randint(60_001, DAY), DAY))]
+    long = rng.choice((rng.randint(5000, 59_999), 60_000, rng.randint(60_001, DAY), DAY))
+    return [0, 1, rng.randint(2, 99), rng.randint(100, 5000), long]
 
 
-def signals(rng, actions):
-    return [rng.choice((0, 0, 1, 1, 2, 31)) if rng.random() < 0.8 or not actions else 32 + rng.randrange(actions)]
+def signal(rng, actions):
+    """One of few inputs, so that transitions share them, or an action's activity."""
+    return rng.choice((0, 0, 1, 1, 2, 31)) if rng.random() < 0.8 or not actions else 32 + rng.randrange(actions)
 
 
 def transition(rng, steps, actions, due):
-    """From one step to another, with forks, joins and both. A few steps are named often, so that transitions are rivals."""
+    """From one step to another, or a fork, a join or both. Where steps are few, transitions are often rivals."""
     ends = rng.sample(range(steps), 2)
     others = chosen(rng, set(range(steps)) - set(ends), 3) if rng.random() < 0.4 else set()
-    sources = {ends[0]} | {k for k in others if rng.random() < 0.5}
+    sources = {ends[0]} | {k for k in sorted(others) if rng.random() < 0.5}
     targets = ({ends[1]} | others) - sources
-    on = set(signals(rng, actions)) if rng.random() < 0.7 else set()
-    off = set(signals(rng, actions)) - on if rng.random() < 0.3 else set()
+    on = {signal(rng, actions)} if rng.random() < 0.7 else set()
+    off = {signal(rng, actions)} - on if rng.random() < 0.3 else set()
     return (word(sources), word(targets), word(on), word(off), rng.choice(due[:1] * 4 + due))
 
 
@@ -136,7 +139,7 @@ def random_chart(rng):
         2: [(rng.randrange(3 if few else 32), rng.choice(values)) for _ in range(actions)],
         3: [transition(rng, steps, actions, due) for _ in range(transitions if steps > 1 else 0)],
         4: blocks(rng, many, steps, actions, due),
-        5: [(rng.randrange(steps), signals(rng, actions)[0], rng.randrange(2)) for _ in range(cases)],
+        5: [(rng.randrange(steps), signal(rng, actions), rng.randrange(2)) for _ in range(cases)],
     }
 
 
@@ -231,10 +234,9 @@ def timed_twice(rng, chart):
     return records(chart | {4: (chart[4] + more)[-256:]})
 
 
-def damaged(rng, parts):
-    """The bytes of a list of records with bytes changed, cut, doubled, moved or surplus."""
-    parts, i, j = list(parts), rng.randrange(len(parts)), rng.randrange(len(parts))
-    kind = rng.randrange(9)
+def moved_records(rng, parts):
+    """A record replaced, doubled, moved, left out, or with another length or kind in its head."""
+    parts, i, j, kind = list(parts), rng.randrange(len(parts)), rng.randrange(len(parts)), rng.randrange(5)
     if kind == 0:
         parts[i] = parts[j]
     elif kind == 1:
@@ -243,23 +245,31 @@ def damaged(rng, parts):
         parts.insert(j, parts.pop(i))
     elif kind == 3:
         del parts[i]
-    elif kind == 8:
+    else:
         head = list(struct.unpack_from("<HH", parts[i]))
         head[rng.randrange(2)] = boundary(rng, "H", rng.choice(head), [5, 16, 17, 256])
         parts[i] = struct.pack("<HH", *head) + parts[i][4:]
-    data = bytearray(b"".join(parts))
-    place = rng.randrange(len(data) or 1)
-    if kind == 4:
-        del data[rng.choice((place, len(data) - 1, len(data) - 4 if len(data) > 4 else 0)):]
-    elif kind == 5:
+    return b"".join(parts)
+
+
+def changed_bytes(rng, data):
+    """The bytes cut, with surplus behind them, a part doubled, or a few changed."""
+    data, place, kind = bytearray(data), rng.randrange(len(data)), rng.randrange(4)
+    if kind == 0:
+        del data[rng.choice((place, len(data) - 1, max(0, len(data) - 4))):]
+    elif kind == 1:
         data += rng.choice((b"\0", END, rng.randbytes(rng.randint(1, 9)), b"\0" * 70_000))
-    elif kind == 6:
+    elif kind == 2:
         data[place:place] = data[place:place + rng.randint(1, 40)]
-    elif kind == 7:
-        for _ in range(rng.randint(1, 3) if data else 0):
-            k = rng.randrange(len(data))
+    else:
+        for k in rng.sample(range(len(data)), min(len(data), rng.randint(1, 3))):
             data[k] = boundary(rng, "B", data[k])
     return bytes(data)
+
+
+def damaged(rng, parts):
+    """The bytes of a list of records, damaged."""
+    return moved_records(rng, parts) if rng.random() < 0.5 else changed_bytes(rng, b"".join(parts))
 
 
 def faulty_file(rng, chart):
@@ -274,7 +284,7 @@ def print_case(seed, number):
     chart = random_chart(rng)
     file, trace = b"".join(records(chart)), random_trace(rng, chart)
     if number == 0:
-        return file, trace[0] + b"".join(cycle(0, inputs_for(rng, chart)) for _ in range(5460 + rng.randint(0, 2)))
+        return file, start(0) + b"".join(cycle(7 * k, inputs_for(rng, chart)) for k in range(5460 + rng.randint(0, 2)))
     kind = rng.random()
     if kind < 0.35:
         file = rng.choice((faulty_file(rng, chart),) * 19 + (None,))
@@ -306,7 +316,8 @@ def random_run(rng, chart, elapsed, wanted):
     for name, numbers in sets.items():
         image[name][0] = word(numbers)
     for k in sets["active"]:
-        image["counters"][k] = time([t[4] for t in chart[3] if has(t[0], k)] + [b[3] for b in chart[4] if b[0] == k and b[2] in (L, D, DS)])
+        waits, durations = [t[4] for t in chart[3] if has(t[0], k)], [b[3] for b in chart[4] if b[0] == k and b[2] in (L, D, DS)]
+        image["counters"][k] = time(waits + durations)
     for k in sets["latched"]:
         image["timers"][k] = time([b[3] for b in chart[4] if b[1] == k and b[2] in (SD, SL)])
     image["clock"][0] = rng.choice((0, 1000, TURN - 1, TURN - rng.randint(1, 60_000), rng.randrange(TURN)))
@@ -318,8 +329,7 @@ def random_weights(rng, chart):
     steps = len(chart[1])
     many = rng.choice((steps,) * 8 + (steps - 1, steps + 1, 0, 64, 255))
     weight = rng.choice((0, 1, 65535, rng.randrange(65536)))
-    weights = [rng.choice((weight, rng.randrange(65536))) if rng.random() < 0.1 else weight for _ in range(many)]
-    return weights
+    return [rng.randrange(65536) if rng.random() < 0.05 else weight for _ in range(many)]
 
 
 def alter_image(rng, layout, image, counts):
@@ -578,11 +588,12 @@ def main():
         compare_read(asked.seed, 2 * asked.cases, second, reached)
         compare_held(asked.seed, 5 * asked.cases, second, reached)
         compare_printed(asked.seed, asked.cases, second, reached)
-    print("; ".join(f"{name}: {reached[name]}" for name in [*NEEDED, *sorted(set(reached) - set(NEEDED))]))
+    counts = "; ".join(f"{name}: {reached[name]}" for name in [*NEEDED, *sorted(set(reached) - set(NEEDED))])
+    print(textwrap.fill(counts, 140, break_long_words=False))
     missing = [name for name in NEEDED if not reached[name]]
     if missing:
         sys.exit(f"compare: seed {asked.seed} never reached: {', '.join(missing)}")
-    print(f"compare: seed {asked.seed}, {2 * asked.cases} files read, {5 * asked.cases} held calls and {asked.cases} printed runs, no difference")
+    print(f"compare: seed {asked.seed}, no difference in {2 * asked.cases} files read, {5 * asked.cases} held calls, {asked.cases} printed runs")
 
 
 if __name__ == "__main__":

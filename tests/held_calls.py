@@ -167,7 +167,9 @@ start(line(9, 0, STILL), {"steps": 0, "transitions": 0, "blocks": 0, "cases": 0}
 refused(8, {("qualifier", 1): 3, ("qualifier", 2): 8})
 tally("9 0 0 0", {("initial", 0): 0, ("qualifier", 1): 3, ("qualifier", 2): 8})
 # 12: a run of another chart; 11: elapsed time above 60,000 ms
-for field, value in {"active": 4, "stored": 2**32, "bad": 2, ("counters", 1): 1, ("counters", 0): DAY + 1, ("timers", 31): 2**32 - 1}.items():
+for field, value in {
+    "active": 4, "stored": 2**32, "bad": 2, ("counters", 1): 1, ("counters", 0): DAY + 1, ("timers", 31): 2**32 - 1,
+}.items():
     refused(12, run=altered(BEGUN, {field: value}), clock=999)
 refused(11, clock=61_001)
 refused(11, clock=999)
