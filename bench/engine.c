@@ -1,0 +1,459 @@
+/* The plain C engine: one flat chart, 64-bit words as sets, every call tests the chart and the run that it is given, as document 01 asks. */
+#include "engine.h"
+
+#include <string.h>
+
+#define BIT(k) (UINT64_C(1) << (k))
+
+/* Qualifiers L, D, SD, DS and SL, as bits. */
+#define TIMED (1u << L | 1u << D | 1u << SD | 1u << DS | 1u << SL)
+
+/* The numbers from n on. */
+static inline uint64_t from(size_t n)
+{
+	return n < 64 ? ~UINT64_C(0) << n : 0;
+}
+
+/* The signals that do not exist: those of actions from n on. */
+static inline uint64_t signals_from(size_t actions)
+{
+	return from(32 + actions);
+}
+
+static inline uint32_t u16_at(const uint8_t *b)
+{
+	uint16_t x;
+	memcpy(&x, b, sizeof x);
+	return x;
+}
+
+static inline uint32_t u32_at(const uint8_t *b)
+{
+	uint32_t x;
+	memcpy(&x, b, sizeof x);
+	return x;
+}
+
+static inline uint64_t u64_at(const uint8_t *b)
+{
+	uint64_t x;
+	memcpy(&x, b, sizeof x);
+	return x;
+}
+
+static inline unsigned transition_code(uint64_t nostep, uint64_t nosignal, uint64_t sources, uint64_t targets, uint64_t on, uint64_t off, uint32_t wait)
+{
+	if (((sources | targets) & nostep) | ((on | off) & nosignal) | (wait > LONGEST))
+		return BAD_FIELD;
+	if (sources == 0 || targets == 0 || (sources & targets))
+		return BAD_STEPS;
+	if (on & off)
+		return BAD_SIGNALS;
+	return ACCEPTED;
+}
+
+static inline unsigned block_bad(size_t steps, size_t actions, uint8_t step, uint8_t action, uint8_t qualifier, uint32_t duration)
+{
+	unsigned timed = qualifier < 32 && (TIMED >> qualifier & 1);
+	return (step >= steps) | (action >= actions) | (qualifier > P0) | (duration > (timed ? LONGEST : 0));
+}
+
+static inline unsigned case_bad(size_t steps, size_t actions, uint8_t step, uint8_t signal, uint8_t expected)
+{
+	return (step >= steps) | (signal >= 32 + actions) | (expected > 1);
+}
+
+static inline int some_initial(const struct chart *c)
+{
+	return c->steps != 0 && memchr(c->initial, 1, c->steps) != NULL;
+}
+
+/* What is tested after the records of a file: no initial step, two timed blocks for one action. */
+static unsigned closing_code(const struct chart *c)
+{
+	uint32_t seen = 0, twice = 0;
+	if (!some_initial(c))
+		return NO_INITIAL;
+	for (size_t i = 0; i < c->blocks; i++) {
+		if (TIMED >> c->qualifier[i] & 1) {
+			uint32_t bit = UINT32_C(1) << c->blockaction[i];
+			twice |= seen & bit;
+			seen |= bit;
+		}
+	}
+	return twice ? TIMED_TWICE : ACCEPTED;
+}
+
+static const uint8_t LENGTHS[6] = { 0, 1, 5, 36, 7, 3 };
+
+static unsigned read_records(const uint8_t *bytes, size_t size, struct chart *c, size_t *place)
+{
+	size_t at = 0;
+	uint32_t before = 0;
+	uint64_t nostep = 0, nosignal = 0;
+	for (;;) {
+		*place = at;
+		if (size - at < 4)
+			return CUT;
+		uint32_t length = u16_at(bytes + at), kind = u16_at(bytes + at + 2);
+		if (kind > 5 || (kind != 0 && kind < before))
+			return BAD_KIND;
+		if (length != LENGTHS[kind])
+			return BAD_LENGTH;
+		if (size - at - 4 < length)
+			return CUT;
+		const uint8_t *b = bytes + at + 4;
+		size_t i;
+		unsigned code;
+		switch (kind) {
+		case 1:
+			i = c->steps;
+			if (i == STEPS)
+				return TOO_MANY;
+			if (b[0] > 1)
+				return BAD_FIELD;
+			c->initial[i] = b[0];
+			c->steps = i + 1;
+			break;
+		case 2:
+			i = c->actions;
+			if (i == ACTIONS)
+				return TOO_MANY;
+			if (b[0] >= OUTPUTS)
+				return BAD_FIELD;
+			c->output[i] = b[0];
+			c->value[i] = (int32_t)u32_at(b + 1);
+			c->actions = i + 1;
+			break;
+		case 3:
+			i = c->transitions;
+			if (i == TRANSITIONS)
+				return TOO_MANY;
+			if (before != 3) {
+				nostep = from(c->steps);
+				nosignal = signals_from(c->actions);
+			}
+			c->sources[i] = u64_at(b);
+			c->targets[i] = u64_at(b + 8);
+			c->on[i] = u64_at(b + 16);
+			c->off[i] = u64_at(b + 24);
+			c->wait[i] = u32_at(b + 32);
+			code = transition_code(nostep, nosignal, c->sources[i], c->targets[i], c->on[i], c->off[i], c->wait[i]);
+			if (code)
+				return code;
+			c->transitions = i + 1;
+			break;
+		case 4:
+			i = c->blocks;
+			if (i == BLOCKS)
+				return TOO_MANY;
+			if (block_bad(c->steps, c->actions, b[0], b[1], b[2], u32_at(b + 3)))
+				return BAD_FIELD;
+			c->blockstep[i] = b[0];
+			c->blockaction[i] = b[1];
+			c->qualifier[i] = b[2];
+			c->duration[i] = u32_at(b + 3);
+			c->blocks = i + 1;
+			break;
+		case 5:
+			i = c->cases;
+			if (i == CASES)
+				return TOO_MANY;
+			if (case_bad(c->steps, c->actions, b[0], b[1], b[2]))
+				return BAD_FIELD;
+			c->casestep[i] = b[0];
+			c->signal[i] = b[1];
+			c->expected[i] = b[2];
+			c->cases = i + 1;
+			break;
+		default:
+			*place = at + 4;
+			if (at + 4 < size)
+				return SURPLUS;
+			*place = 0;
+			return closing_code(c);
+		}
+		before = kind;
+		at += 4 + length;
+	}
+}
+
+unsigned read_chart(const uint8_t *bytes, size_t size, struct chart *chart, size_t *place)
+{
+	memset(chart, 0, sizeof *chart);
+	unsigned code = read_records(bytes, size, chart, place);
+	if (code)
+		memset(chart, 0, sizeof *chart);
+	return code;
+}
+
+/* What can be made of vectors in columns, and only then what goes by the qualifier; `twice` tells of two timed blocks for one action. */
+static unsigned blocks_bad(const struct chart *c, uint32_t *twice)
+{
+	uint8_t steps = (uint8_t)c->steps, actions = (uint8_t)c->actions;
+	uint32_t bad = 0, seen = 0;
+	size_t n = c->blocks;
+	*twice = 0;
+	for (size_t i = 0; i < n; i++)
+		bad |= (c->blockstep[i] >= steps) | (c->blockaction[i] >= actions) | (c->qualifier[i] > P0);
+	for (size_t i = 0; i < n; i++)
+		bad |= c->duration[i] > LONGEST;
+	if (bad)
+		return 1;
+	for (size_t i = 0; i < n; i++) {
+		if (TIMED >> c->qualifier[i] & 1) {
+			uint32_t bit = UINT32_C(1) << c->blockaction[i];
+			*twice |= seen & bit;
+			seen |= bit;
+		} else {
+			bad |= c->duration[i];
+		}
+	}
+	return bad != 0;
+}
+
+unsigned chart_code(const struct chart *c)
+{
+	if (c->steps > STEPS || c->actions > ACTIONS || c->transitions > TRANSITIONS || c->blocks > BLOCKS || c->cases > CASES)
+		return TOO_MANY;
+	unsigned bad = 0;
+	for (size_t i = 0; i < c->steps; i++)
+		bad |= c->initial[i] > 1;
+	for (size_t i = 0; i < c->actions; i++)
+		bad |= c->output[i] >= OUTPUTS;
+	if (bad)
+		return BAD_FIELD;
+	uint64_t nostep = from(c->steps), nosignal = signals_from(c->actions);
+	for (size_t i = 0; i < c->transitions; i++) {
+		unsigned code = transition_code(nostep, nosignal, c->sources[i], c->targets[i], c->on[i], c->off[i], c->wait[i]);
+		if (code)
+			return code;
+	}
+	uint32_t twice;
+	if (blocks_bad(c, &twice))
+		return BAD_FIELD;
+	uint8_t steps = (uint8_t)c->steps, signals = (uint8_t)(32 + c->actions);
+	for (size_t i = 0; i < c->cases; i++)
+		bad |= (c->casestep[i] >= steps) | (c->signal[i] >= signals) | (c->expected[i] > 1);
+	if (bad)
+		return BAD_FIELD;
+	if (!some_initial(c))
+		return NO_INITIAL;
+	return twice ? TIMED_TWICE : ACCEPTED;
+}
+
+/* Counts are 0 outside the set and at most a day. */
+static unsigned counts_bad(const uint32_t *counts, size_t n, uint64_t set)
+{
+	unsigned bad = 0;
+	uint64_t some = 0;
+	for (size_t k = 0; k < n; k++)
+		bad |= counts[k] > LONGEST;
+	for (size_t k = 0; k < n; k++)
+		some |= (uint64_t)(counts[k] != 0) << k;
+	return bad | ((some & ~set) != 0);
+}
+
+static unsigned belongs(const struct chart *c, const struct run *r)
+{
+	uint64_t noaction = from(c->actions);
+	if ((r->active & from(c->steps)) | ((r->activity | r->stored | r->latched) & noaction) | ((r->good | r->bad) & from(c->cases)))
+		return 0;
+	return !(counts_bad(r->counters, STEPS, r->active) | counts_bad(r->timers, ACTIONS, r->latched));
+}
+
+static inline void grow(uint32_t *counts, uint64_t set, uint32_t elapsed)
+{
+	for (; set; set &= set - 1) {
+		unsigned k = __builtin_ctzll(set);
+		uint32_t n = counts[k] + elapsed;
+		counts[k] = n < LONGEST ? n : LONGEST;
+	}
+}
+
+static inline void clear(uint32_t *counts, uint64_t set)
+{
+	for (; set; set &= set - 1)
+		counts[__builtin_ctzll(set)] = 0;
+}
+
+/* Each source's counter has reached the wait. */
+static inline int ripe(const uint32_t *counters, uint64_t sources, uint32_t wait)
+{
+	for (; sources; sources &= sources - 1)
+		if (counters[__builtin_ctzll(sources)] < wait)
+			return 0;
+	return 1;
+}
+
+struct moves {
+	uint64_t taken, left, entered;
+};
+
+static struct moves choose(const struct chart *c, const struct run *r, uint64_t signals)
+{
+	struct moves m = { 0, 0, 0 };
+	uint64_t active = r->active;
+	for (size_t t = 0; t < c->transitions; t++) {
+		uint64_t sources = c->sources[t], targets = c->targets[t];
+		if ((sources & (~active | m.left)) | (targets & (active | m.entered)) | (c->on[t] & ~signals) | (c->off[t] & signals))
+			continue;
+		if (!ripe(r->counters, sources, c->wait[t]))
+			continue;
+		m.taken |= BIT(t);
+		m.left |= sources;
+		m.entered |= targets;
+	}
+	return m;
+}
+
+static void mark(const struct chart *c, struct run *r, uint64_t left, uint64_t signals)
+{
+	for (size_t i = 0; i < c->cases; i++) {
+		if (!(left >> c->casestep[i] & 1))
+			continue;
+		if ((signals >> c->signal[i] & 1) == c->expected[i])
+			r->good |= BIT(i);
+		else
+			r->bad |= BIT(i);
+	}
+}
+
+/* Paragraphs 4 to 6: the run has its new steps and counters, and timers that have grown. */
+static void settle(const struct chart *c, struct run *r, uint64_t entered, uint64_t left, int32_t *outputs)
+{
+	uint64_t active = r->active, reset = 0, set = 0, latch = 0, want = 0, ripe = 0;
+	for (size_t i = 0; i < c->blocks; i++) {
+		unsigned step = c->blockstep[i], action = c->blockaction[i];
+		uint64_t on = active >> step & 1;
+		uint32_t count = r->counters[step], duration = c->duration[i];
+		switch (c->qualifier[i]) {
+		case N: want |= on << action; break;
+		case R: reset |= on << action; break;
+		case S: set |= on << action; break;
+		case L: want |= (on & (count < duration)) << action; break;
+		case D: want |= (on & (count >= duration)) << action; break;
+		case P: want |= ((entered | left) >> step & 1) << action; break;
+		case SD:
+			latch |= on << action;
+			ripe |= (uint64_t)(r->timers[action] >= duration) << action;
+			break;
+		case DS: set |= (on & (count >= duration)) << action; break;
+		case SL:
+			latch |= on << action;
+			ripe |= (uint64_t)(r->timers[action] < duration) << action;
+			break;
+		case P1: want |= (entered >> step & 1) << action; break;
+		case P0: want |= (left >> step & 1) << action; break;
+		}
+	}
+	r->stored = (r->stored | set) & ~reset;
+	uint64_t latched = (r->latched | latch) & ~reset;
+	clear(r->timers, r->latched & ~latched);
+	r->latched = latched;
+	r->activity = (r->stored | want | (latched & ripe)) & ~reset;
+	memset(outputs, 0, OUTPUTS * sizeof *outputs);
+	for (size_t a = c->actions; a-- > 0;)
+		if (r->activity >> a & 1)
+			outputs[c->output[a]] = c->value[a];
+}
+
+unsigned start(const struct chart *c, uint32_t clock, int32_t *outputs, size_t lent, struct run *r)
+{
+	memset(r, 0, sizeof *r);
+	if (lent < OUTPUTS)
+		return FEW_OUTPUTS;
+	unsigned code = chart_code(c);
+	if (code)
+		return code;
+	for (size_t i = 0; i < c->steps; i++)
+		r->active |= (uint64_t)c->initial[i] << i;
+	r->clock = clock;
+	settle(c, r, r->active, 0, outputs);
+	return ACCEPTED;
+}
+
+unsigned cycle(const struct chart *c, struct run *r, uint32_t clock, uint32_t inputs, int32_t *outputs, size_t lent, uint64_t *taken)
+{
+	*taken = 0;
+	if (lent < OUTPUTS)
+		return FEW_OUTPUTS;
+	unsigned code = chart_code(c);
+	if (code)
+		return code;
+	if (!belongs(c, r))
+		return OTHER_RUN;
+	uint32_t elapsed = clock - r->clock;
+	if (elapsed > LATEST)
+		return TOO_LATE;
+	grow(r->counters, r->active, elapsed);
+	grow(r->timers, r->latched, elapsed);
+	uint64_t signals = inputs | r->activity << 32;
+	struct moves m = choose(c, r, signals);
+	r->active = (r->active & ~m.left) | m.entered;
+	clear(r->counters, m.left | m.entered);
+	if (m.left)
+		mark(c, r, m.left, signals);
+	settle(c, r, m.entered, m.left, outputs);
+	r->clock = clock;
+	*taken = m.taken;
+	return ACCEPTED;
+}
+
+static uint8_t *put(uint8_t *at, const void *from, size_t size)
+{
+	memcpy(at, from, size);
+	return at + size;
+}
+
+uint64_t c_cycles(const uint8_t *bytes, size_t size, const uint32_t *clocks, size_t nclocks, const uint32_t *inputs, size_t ninputs,
+	uint32_t n, uint8_t *image, size_t room)
+{
+	struct chart c;
+	struct run r;
+	int32_t outputs[OUTPUTS] = { 0 };
+	uint64_t accepted = 0, taken;
+	size_t place;
+	if (nclocks == 0 || ninputs == 0 || room < IMAGE)
+		return REFUSED;
+	unsigned code = read_chart(bytes, size, &c, &place);
+	if (code)
+		return REFUSED + code;
+	start(&c, clocks[0], outputs, OUTPUTS, &r);
+	for (uint32_t i = 0; i < n; i++)
+		accepted += cycle(&c, &r, clocks[i % nclocks], inputs[i % ninputs], outputs, OUTPUTS, &taken) == ACCEPTED;
+	image = put(image, &r.clock, 4);
+	image = put(image, &r.active, 8);
+	image = put(image, &r.activity, 8);
+	image = put(image, &r.stored, 8);
+	image = put(image, &r.latched, 8);
+	image = put(image, &r.good, 8);
+	image = put(image, &r.bad, 8);
+	image = put(image, r.counters, sizeof r.counters);
+	image = put(image, r.timers, sizeof r.timers);
+	put(image, outputs, sizeof outputs);
+	return accepted;
+}
+
+uint64_t c_reads(const uint8_t *bytes, size_t size, uint32_t n)
+{
+	struct chart c;
+	size_t place;
+	uint64_t sum = 0;
+	for (uint32_t i = 0; i < n; i++)
+		sum += read_chart(bytes, size, &c, &place);
+	return sum;
+}
+
+uint64_t c_tests(const uint8_t *bytes, size_t size, uint32_t n)
+{
+	struct chart c;
+	size_t place;
+	uint64_t sum = 0;
+	read_chart(bytes, size, &c, &place);
+	for (uint32_t i = 0; i < n; i++) {
+		c.wait[0] = i;
+		sum += chart_code(&c);
+	}
+	return sum;
+}

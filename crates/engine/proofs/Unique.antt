@@ -1,0 +1,20 @@
+-- Two answers that one statement allows are equal, for each public function.
+use Prim.Native.Nat.{ℕ}
+use mathlib.Core.List.{List}
+use mathlib.Core.Path.{_≡_}
+use Rattle.sets.proofs.Unique.{one-answer}
+use Rattle.reader.specs.declared.chart.Chart.{Chart}
+use Rattle.engine.specs.Runs.{cyclesOf, readsOf, testsOf}
+
+-- the number and the image together
+pub cycles-unique : (chart clocks inputs : List ℕ) (n : ℕ) (image : List ℕ) (r q : ℕ × List ℕ)
+    → r ≡ cyclesOf chart clocks inputs n image
+    → q ≡ cyclesOf chart clocks inputs n image
+    → r ≡ q
+cycles-unique chart clocks inputs n image r q = one-answer
+
+pub reads-unique : (chart : List ℕ) (n r q : ℕ) → r ≡ readsOf chart n → q ≡ readsOf chart n → r ≡ q
+reads-unique chart n r q = one-answer
+
+pub tests-unique : (c : Chart) (n r q : ℕ) → r ≡ testsOf c n → q ≡ testsOf c n → r ≡ q
+tests-unique c n r q = one-answer

@@ -1,0 +1,66 @@
+// The engine for programs in other languages: a chart's bytes in, the run after some cycles out. The benchmark links it (bench/).
+ghost use mathlib.Core.Path.{_≡_};
+ghost use Rattle.reader.specs.Reading.{readChart};
+ghost use Rattle.engine.specs.Runs.{unfit, cyclesOf, readsOf, testsOf};
+
+pub mod image;
+pub mod runs;
+
+use image::IMAGE;
+
+// Added to a number of refusal, so that no answer is both it and a number of cycles; alone it says that the lent slices are unfit.
+const REFUSED: u64 = 4_294_967_296;
+
+fn is_unfit(clocks: usize, inputs: usize, image: usize) -> bool
+    ensures { λ r. ⌜ r ≡ unfit clocks inputs image ⌝ }
+{
+    (clocks == 0) | (inputs == 0) | (image < IMAGE)
+}
+
+// Reads the chart and starts it at the first clock, then makes n cycles, with clocks and inputs taken in turn from the two slices, again and
+// again. Answers how many were accepted; the run and the outputs are left in the image.
+#[no_mangle]
+pub extern "C" fn tolwaziho_cycles(
+    chart: &[u8],
+    clocks: &[u32],
+    inputs: &[u32],
+    n: u32,
+    image: &mut [u8],
+) -> u64
+    ensures { λ r. ⌜ (r, now (image .exit)) ≡ cyclesOf (now (chart .entry)) (now (clocks .entry)) (now (inputs .entry)) n (now (image .entry)) ⌝ }
+{
+    if is_unfit(clocks.len(), inputs.len(), image.len()) {
+        return REFUSED;
+    }
+    let reading = reader::read_chart(chart);
+    if reading.code != 0 {
+        return REFUSED + reading.code as u64;
+    }
+    let held = reading.chart;
+    runs::run_chart(held, clocks, inputs, n, image)
+}
+
+// Reads the same bytes n times: the sum of the numbers of refusal.
+#[no_mangle]
+pub extern "C" fn tolwaziho_reads(chart: &[u8], n: u32) -> u64
+    ensures { λ r. ⌜ r ≡ readsOf (now (chart .entry)) n ⌝ }
+{
+    let mut sum = 0u64;
+    let mut i = 0u32;
+    while i < n {
+        let reading = reader::read_chart(chart);
+        sum += reading.code as u64;
+        i += 1;
+    }
+    sum
+}
+
+// Reads the chart once and tests it n times, with wait 0 altered before each: the sum of the numbers of refusal.
+#[no_mangle]
+pub extern "C" fn tolwaziho_tests(chart: &[u8], n: u32) -> u64
+    ensures { λ r. ⌜ r ≡ testsOf (readChart (now (chart .entry)) .chart) n ⌝ }
+{
+    let reading = reader::read_chart(chart);
+    let held = reading.chart;
+    runs::test_held(held, n)
+}

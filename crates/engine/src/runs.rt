@@ -1,0 +1,88 @@
+// Many calls on one chart.
+ghost use mathlib.Core.Path.{_≡_};
+ghost use Prim.Native.Nat.{_%_, _≤_, _<_};
+ghost use lib.ListN.{length};
+ghost use Rattle.engine.specs.Runs.{accepts, turned, ran, testsOf};
+use crate::image;
+use cycle::Run;
+use reader::Chart;
+
+// How many cycles were accepted, and the run after the last.
+pub struct Ran {
+    pub accepted: u32,
+    pub run: Run,
+}
+
+fn accepts(code: u8) -> u32
+    ensures { λ r. ⌜ (r ≡ accepts code) × (r ≤ 1) ⌝ }
+{
+    if code == 0 { 1 } else { 0 }
+}
+
+// The place of turn i in a slice of n that is taken again and again.
+fn place_of(i: u32, n: usize) -> usize
+    requires { ⌜ 1 ≤ n ⌝ }
+    ensures { λ r. ⌜ (r ≡ i % n) × (r < n) ⌝ }
+{
+    i as usize % n
+}
+
+fn run_on(
+    chart: Chart,
+    first: Run,
+    clocks: &[u32],
+    inputs: &[u32],
+    n: u32,
+    outputs: &mut [i32],
+) -> Ran
+    requires { ⌜ (1 ≤ length (now clocks)) × (1 ≤ length (now inputs)) ⌝ }
+    ensures { λ r. ⌜ (r, now (outputs .exit)) ≡ turned chart first (now (clocks .entry)) (now (inputs .entry)) n (now (outputs .entry)) ⌝ }
+{
+    let mut run = first;
+    let mut accepted = 0u32;
+    let mut i = 0u32;
+    while i < n {
+        let clock = clocks[place_of(i, clocks.len())];
+        let word = inputs[place_of(i, inputs.len())];
+        let o = cycle::cycle(chart, run, clock, word, outputs);
+        run = o.run;
+        accepted += accepts(o.code);
+        i += 1;
+    }
+    Ran { accepted, run }
+}
+
+pub(crate) fn run_chart(
+    chart: Chart,
+    clocks: &[u32],
+    inputs: &[u32],
+    n: u32,
+    image: &mut [u8],
+) -> u64
+    requires { ⌜ (1 ≤ length (now clocks)) × (1 ≤ length (now inputs)) × (564 ≤ length (now image)) ⌝ }
+    ensures { λ r. ⌜ (r, now (image .exit)) ≡ ran chart (now (clocks .entry)) (now (inputs .entry)) n (now (image .entry)) ⌝ }
+{
+    let mut room = [0i32; 32];
+    let outputs: &mut [i32] = &mut room;
+    let o = cycle::start(chart, clocks[0], outputs);
+    let first = o.run;
+    let ran = run_on(chart, first, clocks, inputs, n, outputs);
+    let run = ran.run;
+    image::put_run(image, run);
+    image::put_outputs(image, outputs);
+    ran.accepted as u64
+}
+
+pub(crate) fn test_held(chart: Chart, n: u32) -> u64
+    ensures { λ r. ⌜ r ≡ testsOf chart n ⌝ }
+{
+    let mut held = chart;
+    let mut sum = 0u64;
+    let mut i = 0u32;
+    while i < n {
+        held.wait[0] = i;
+        sum += reader::chart_code(held) as u64;
+        i += 1;
+    }
+    sum
+}
