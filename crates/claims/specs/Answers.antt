@@ -35,7 +35,8 @@ use Rattle.report.specs.Tracing.{recordFits, traceNumber}
 use Rattle.report.specs.declared.tallying.Tallied.{Tallied}
 use Rattle.report.specs.declared.weighing.Weighed.{Weighed}
 use Rattle.report.proofs.weighing.Laws.{weights-refused, balance-refused, accepted}
-use Rattle.claims.specs.Numbers.{record-each, chart-each, read-each, start-each, cycle-each, tally-each, weigh-each, trace-each, start-code, cycle-code, tally-code, weigh-code, tally-refused, weigh-refused, weigh-names, all-balanced, first-unbalanced, left-alone, front-written, rest-kept}
+use Rattle.reader.proofs.held.Each.{chart-each}
+use Rattle.claims.specs.Numbers.{record-each, read-each, start-each, cycle-each, tally-each, weigh-each, trace-each, start-code, cycle-code, tally-code, weigh-code, tally-refused, weigh-refused, weigh-names, all-balanced, first-unbalanced, left-alone, front-written, rest-kept}
 
 -- ---- the numbers
 

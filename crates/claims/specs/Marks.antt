@@ -7,7 +7,7 @@ use native.Mathlib.Nat.{add-zero}
 use native.Mathlib.Omega.{arith}
 use lib.ListN.{getD}
 use lib.Dec.{eqb, ltb, leb}
-use borrow.Author.Tests.{ltb-true, eqb-true, eqb-false, ne-eqb}
+use borrow.Author.Tests.{ltb-true, eqb-true, ne-eqb}
 use Rattle.sets.specs.Loops.{some, summed, counted}
 use Rattle.sets.specs.Sets.{has, union, collect}
 use Rattle.sets.proofs.Loops.{and-true, or-true, or-false, else-zero, first-zero}
@@ -24,7 +24,7 @@ use Rattle.cycle.specs.Moving.{signalsOf, asExpected, marksOf}
 use Rattle.cycle.specs.Cycling.{refused, startCode, cycleCode, started, startOf, choiceOf, cycled}
 use Rattle.cycle.specs.declared.run.Run.{Run}
 use Rattle.cycle.specs.declared.cycling.Cycled.{Cycled}
-use Rattle.cycle.proofs.cycling.Kept.{cycle-belongs, cycle-refused}
+use Rattle.cycle.proofs.cycling.Kept.{cycle-keeps}
 use Rattle.claims.specs.Runs.{Call, answer, after, begun, one}
 use Rattle.claims.specs.Moves.{chosen-is}
 
@@ -189,16 +189,8 @@ start-unmarked c clock lent i = go (eqb (startCode c lent) 0)
     go true = record { good = has-zero i; bad = has-zero i }
     go false = record { good = has-zero i; bad = has-zero i }
 
--- a call answers with a run that belongs to the chart, if it was given one: a refused call hands the run back
-answer-belongs : (c : Chart) (r : Run) (x : Call) → belongs c r ≡ true → belongs c (answer c r x .run) ≡ true
-answer-belongs c r x h = go (eqb (answer c r x .code) 0) refl
-  where
-    go : (b : Bool) → eqb (answer c r x .code) 0 ≡ b → belongs c (answer c r x .run) ≡ true
-    go true e = cycle-belongs c r (x .clock) (x .inputs) (x .lent) (eqb-true _ 0 e)
-    go false e = ap (λ (o : Cycled). belongs c (o .run)) (cycle-refused c r (x .clock) (x .inputs) (x .lent) (eqb-false _ 0 e)) ∙ h
-
--- and so do any calls
+-- after any calls the run still belongs to the chart
 pub after-belongs : (c : Chart) (r : Run) (xs : List Call) → belongs c r ≡ true → belongs c (after c r xs) ≡ true
 unfolding after
 after-belongs c r [] h = h
-after-belongs c r (x ∷ xs) h = after-belongs c (answer c r x .run) xs (answer-belongs c r x h)
+after-belongs c r (x ∷ xs) h = after-belongs c (answer c r x .run) xs (cycle-keeps c r (x .clock) (x .inputs) (x .lent) h)

@@ -9,19 +9,19 @@ use lib.ListN.{length, getD, take, drop}
 use lib.Seq.{take-at, drop-at}
 use lib.Dec.{leb, ltb, eqb}
 use borrow.Author.Tests.{eqb-true, eq-eqb, ne-eqb}
-use Rattle.sets.specs.Loops.{orElse, firstCode}
-use Rattle.sets.specs.Sets.{Apart}
+use Rattle.sets.specs.Loops.{firstCode}
 use Rattle.sets.proofs.Loops.{first-found, length-table}
-use Rattle.reader.specs.Fields.{unless, stepFits, actionFits, transitionFits, stepsDiffer, transitionCode, blockFits, caseFits}
+use Rattle.reader.specs.Fields.{unless, stepFits, actionFits, blockFits, caseFits}
 use Rattle.reader.specs.Framing.{lengthAt, kindAt, bodyLength, kindFits, headNumber, recordNumber}
 use Rattle.reader.specs.Bodies.{bodyAt}
 use Rattle.reader.specs.Chart.{noChart}
-use Rattle.reader.specs.Held.{limitsFit, stepFitsAt, stepsCode, actionFitsAt, actionsCode, transitionCodeAt, transitionsCode, blockFitsAt, blocksCode, caseFitsAt, casesCode, someInitial, timedTwice, closingCode, heldCode, chartCode}
+use Rattle.reader.specs.Held.{closingCode}
 use Rattle.reader.specs.Reading.{refused, accepted, closed, ended, withBody, numberIn, taken, readFrom, readChart}
 use Rattle.reader.specs.declared.bodies.Body.{Body}
 use Rattle.reader.specs.declared.bodies.Body.the-variants.{Step, Action, Transition, Block, Case}
 use Rattle.reader.specs.declared.chart.Chart.{Chart}
 use Rattle.reader.specs.declared.reading.Reading.{Reading}
+use Rattle.reader.proofs.held.Each.{either, else-each, transition-each, closing-each, chart-each}
 use Rattle.cycle.specs.Run.{noRun}
 use Rattle.cycle.specs.Time.{elapsed}
 use Rattle.cycle.specs.Belongs.{belongs}
@@ -88,20 +88,8 @@ weigh-names c weights = go (eqb (weighCode c weights) 0)
 
 -- ---- what holds of each number
 
--- `P` holds of a number that a test or the first of several tests gives, if it holds of each
+-- the same of the other entries (the chart's own numbers: reader's held/Each)
 module _ (P : ℕ → Type 0) where
-  either : (t : Bool) (a b : ℕ) → P a → P b → P (cond t a b)
-  either true a b x y = x
-  either false a b x y = y
-
-  else-each : (a b : ℕ) → P a → P b → P (orElse a b)
-  else-each a b x y = either (eqb a 0) b a y x
-
-  first-each : (f : ℕ → ℕ) (n : ℕ) → P 0 → ((i : ℕ) → P (f i)) → P (firstCode f n)
-  unfolding firstCode
-  first-each f zero z h = z
-  first-each f (suc n) z h = else-each (firstCode f n) (f n) (first-each f n z h) (h n)
-
   -- the record step: 1, 2, 3
   module _ (p0 : P 0) (p1 : P 1) (p2 : P 2) (p3 : P 3) where
     pub record-each : (s : List ℕ) (at before : ℕ) → P (recordNumber s at before)
@@ -112,70 +100,42 @@ module _ (P : ℕ → Type 0) where
         let rest = length s - (at + 4) in
         let whole : ℕ = cond (leb n rest) 0 1 in
         let sized : ℕ = cond (eqb n (bodyLength k)) whole 3 in
-        either (leb 4 (length s - at)) (headNumber n k rest before) 1
-        (either (kindFits k before) sized 2 (either (eqb n (bodyLength k)) whole 3 (either (leb n rest) 0 1 p0 p1) p3) p2) p1
-
-  -- a held transition: 5, 6, 7
-  module _ (p0 : P 0) (p5 : P 5) (p6 : P 6) (p7 : P 7) where
-    transition-each : (steps actions sources targets on off wait : ℕ) → P (transitionCode steps actions sources targets on off wait)
-    unfolding transitionCode
-    transition-each steps actions sources targets on off wait =
-        else-each _ _ (either (transitionFits steps actions sources targets on off wait) 0 5 p0 p5)
-        (else-each _ _ (either (stepsDiffer sources targets) 0 6 p0 p6) (either (Apart on off) 0 7 p0 p7))
-
-  -- a held table of another kind: 5
-  column-each : P 0 → P 5 → (p : ℕ → Bool) (n : ℕ) → P (firstCode (λ i. unless (p i) 5) n)
-  column-each p0 p5 p n = first-each (λ i. unless (p i) 5) n p0 (λ i. either (p i) 0 5 p0 p5)
-
-  -- after the records: 9, 8
-  closing-each : P 0 → P 9 → P 8 → (c : Chart) → P (closingCode (c .steps) (c .blocks) (c .initial) (c .blockaction) (c .qualifier))
-  closing-each p0 p9 p8 c =
-      else-each _ _ (either (someInitial (c .steps) (c .initial)) 0 9 p0 p9) (either (not (timedTwice (c .blocks) (c .blockaction) (c .qualifier))) 0 8 p0 p8)
+        either P (leb 4 (length s - at)) (headNumber n k rest before) 1
+        (either P (kindFits k before) sized 2 (either P (eqb n (bodyLength k)) whole 3 (either P (leb n rest) 0 1 p0 p1) p3) p2) p1
 
   module _ (p0 : P 0) (p4 : P 4) (p5 : P 5) (p6 : P 6) (p7 : P 7) (p9 : P 9) (p8 : P 8) where
-    pub chart-each : (c : Chart) → P (chartCode c)
-    unfolding heldCode stepsCode actionsCode transitionsCode blocksCode casesCode
-    chart-each c =
-        else-each _ _ (either (limitsFit (c .steps) (c .actions) (c .transitions) (c .blocks) (c .cases)) 0 4 p0 p4)
-        (else-each _ _ (column-each p0 p5 (stepFitsAt (c .initial)) (c .steps))
-        (else-each _ _ (column-each p0 p5 (actionFitsAt (c .output)) (c .actions))
-        (else-each _ _ (first-each (transitionCodeAt (c .steps) (c .actions) (c .sources) (c .targets) (c .on) (c .off) (c .wait)) (c .transitions) p0 (λ i. transition-each p0 p5 p6 p7 _ _ _ _ _ _ _))
-        (else-each _ _ (column-each p0 p5 (blockFitsAt (c .steps) (c .actions) (c .blockstep) (c .blockaction) (c .qualifier) (c .duration)) (c .blocks))
-        (else-each _ _ (column-each p0 p5 (caseFitsAt (c .steps) (c .actions) (c .casestep) (c .signal) (c .expected)) (c .cases))
-        (closing-each p0 p9 p8 c))))))
-
     -- the entries that test the chart, with numbers of their own
     pub start-each : P 15 → (c : Chart) (clock lent : ℕ) → P (startOf c clock lent .code)
-    start-each p15 c clock lent = rw (start-code c clock lent) (else-each _ _ (either (leb 32 lent) 0 15 p0 p15) (chart-each c))
+    start-each p15 c clock lent = rw (start-code c clock lent) (else-each P _ _ (either P (leb 32 lent) 0 15 p0 p15) (chart-each P p0 p4 p5 p6 p7 p9 p8 c))
 
     pub cycle-each : P 15 → P 12 → P 11 → (c : Chart) (r : Run) (clock inputs lent : ℕ) → P (cycleOf c r clock inputs lent .code)
     cycle-each p15 p12 p11 c r clock inputs lent =
         rw (cycle-code c r clock inputs lent)
-        (else-each _ _ (either (leb 32 lent) 0 15 p0 p15)
-        (else-each _ _ (chart-each c) (else-each _ _ (either (belongs c r) 0 12 p0 p12) (either (leb (elapsed (r .clock) clock) 60000) 0 11 p0 p11))))
+        (else-each P _ _ (either P (leb 32 lent) 0 15 p0 p15)
+        (else-each P _ _ (chart-each P p0 p4 p5 p6 p7 p9 p8 c) (else-each P _ _ (either P (belongs c r) 0 12 p0 p12) (either P (leb (elapsed (r .clock) clock) 60000) 0 11 p0 p11))))
 
     pub tally-each : P 12 → (c : Chart) (r : Run) → P (tallyOf c r .code)
-    tally-each p12 c r = rw (tally-code c r) (else-each _ _ (chart-each c) (either (belongs c r) 0 12 p0 p12))
+    tally-each p12 c r = rw (tally-code c r) (else-each P _ _ (chart-each P p0 p4 p5 p6 p7 p9 p8 c) (either P (belongs c r) 0 12 p0 p12))
 
     pub weigh-each : P 13 → P 14 → (c : Chart) (weights : List ℕ) → P (weighOf c weights .code)
     weigh-each p13 p14 c weights =
         rw (weigh-code c weights)
-        (else-each _ _ (chart-each c)
-        (else-each _ _ (either (eqb (length weights) (c .steps)) 0 13 p0 p13) (either (eqb (unbalancedIn c weights) 0) 0 14 p0 p14)))
+        (else-each P _ _ (chart-each P p0 p4 p5 p6 p7 p9 p8 c)
+        (else-each P _ _ (either P (eqb (length weights) (c .steps)) 0 13 p0 p13) (either P (eqb (unbalancedIn c weights) 0) 0 14 p0 p14)))
 
   -- a trace record: 16
   pub trace-each : P 0 → P 16 → (s : List ℕ) (at : ℕ) → P (traceNumber s at)
-  trace-each p0 p16 s at = either (isOver s at) 0 (unless (recordFits s at) 16) p0 (either (recordFits s at) 0 16 p0 p16)
+  trace-each p0 p16 s at = either P (isOver s at) 0 (unless (recordFits s at) 16) p0 (either P (recordFits s at) 0 16 p0 p16)
 
   -- reading: all from 1 to 10
   module _ (p0 : P 0) (p1 : P 1) (p2 : P 2) (p3 : P 3) (p4 : P 4) (p5 : P 5) (p6 : P 6) (p7 : P 7) (p10 : P 10) (p9 : P 9) (p8 : P 8) where
     -- a body read into the chart: 4, 5, 6, 7
     body-each : (c : Chart) (b : Body) → P (numberIn c b)
-    body-each c (Step i) = else-each _ _ (either (ltb (c .steps) 64) 0 4 p0 p4) (either (stepFits i) 0 5 p0 p5)
-    body-each c (Action o v) = else-each _ _ (either (ltb (c .actions) 32) 0 4 p0 p4) (either (actionFits o) 0 5 p0 p5)
-    body-each c (Transition f g on off w) = else-each _ _ (either (ltb (c .transitions) 64) 0 4 p0 p4) (transition-each p0 p5 p6 p7 (c .steps) (c .actions) f g on off w)
-    body-each c (Block k a q d) = else-each _ _ (either (ltb (c .blocks) 256) 0 4 p0 p4) (either (blockFits (c .steps) (c .actions) k a q d) 0 5 p0 p5)
-    body-each c (Case k n e) = else-each _ _ (either (ltb (c .cases) 64) 0 4 p0 p4) (either (caseFits (c .steps) (c .actions) k n e) 0 5 p0 p5)
+    body-each c (Step i) = else-each P _ _ (either P (ltb (c .steps) 64) 0 4 p0 p4) (either P (stepFits i) 0 5 p0 p5)
+    body-each c (Action o v) = else-each P _ _ (either P (ltb (c .actions) 32) 0 4 p0 p4) (either P (actionFits o) 0 5 p0 p5)
+    body-each c (Transition f g on off w) = else-each P _ _ (either P (ltb (c .transitions) 64) 0 4 p0 p4) (transition-each P p0 p5 p6 p7 (c .steps) (c .actions) f g on off w)
+    body-each c (Block k a q d) = else-each P _ _ (either P (ltb (c .blocks) 256) 0 4 p0 p4) (either P (blockFits (c .steps) (c .actions) k a q d) 0 5 p0 p5)
+    body-each c (Case k n e) = else-each P _ _ (either P (ltb (c .cases) 64) 0 4 p0 p4) (either P (caseFits (c .steps) (c .actions) k n e) 0 5 p0 p5)
 
     -- one of two readings, by a test
     answer-either : (t : Bool) (x y : Reading) → P (x .code) → P (y .code) → P (cond t x y .code)
@@ -186,7 +146,7 @@ module _ (P : ℕ → Type 0) where
     ended-each : (size next : ℕ) (c : Chart) → P (ended size next c .code)
     ended-each size next c =
         let n = closingCode (c .steps) (c .blocks) (c .initial) (c .blockaction) (c .qualifier) in
-        answer-either (ltb next size) (refused 10 next) (closed n c) p10 (answer-either (eqb n 0) (accepted c) (refused n 0) p0 (closing-each p0 p9 p8 c))
+        answer-either (ltb next size) (refused 10 next) (closed n c) p10 (answer-either (eqb n 0) (accepted c) (refused n 0) p0 (closing-each P p0 p9 p8 c))
 
     -- record after record
     from-each : (f : ℕ) (s : List ℕ) (at before : ℕ) (c : Chart) → P (readFrom f s at before c .code)

@@ -2,11 +2,11 @@
 use Prim.Native.Nat.{ℕ, zero, suc, _≤_, _<_}
 use mathlib.Core.List.{List}
 use mathlib.Core.Bool.{Bool, true, false, _&&_, not, cond}
-use mathlib.Core.Path.{_≡_, refl, sym, _∙_}
+use mathlib.Core.Path.{_≡_, refl, sym, ap, _∙_}
 use native.Mathlib.Omega.{arith}
 use lib.ListN.{getD, replicate}
 use lib.Dec.{leb, eqb}
-use borrow.Author.Tests.{le-leb, eqb-true}
+use borrow.Author.Tests.{le-leb, eqb-true, eqb-false}
 use Rattle.sets.specs.Loops.{turns}
 use Rattle.sets.specs.Sets.{has, Below, union, inter, minus}
 use Rattle.sets.proofs.Loops.{and-true, or-true, true-all, else-zero, getD-table}
@@ -28,6 +28,7 @@ use Rattle.cycle.specs.declared.acting.Steps.{Steps}
 use Rattle.cycle.specs.declared.acting.Asked.{Asked}
 use Rattle.cycle.specs.declared.acting.Acted.{Acted}
 use Rattle.cycle.specs.declared.run.Run.{Run}
+use Rattle.cycle.specs.declared.cycling.Cycled.{Cycled}
 use Rattle.cycle.proofs.belongs.Laws.{Own, own, is-own}
 
 -- ---- counts
@@ -206,3 +207,11 @@ cycle-refused c r clock inputs lent = go (eqb (cycleCode c r clock lent) 0)
         → cond b (cycled c r clock inputs) (refused (cycleCode c r clock lent) r) ≡ refused (cycleCode c r clock lent) r
     go true z = absurd (z refl)
     go false z = refl
+
+-- so a cycle, accepted or refused, answers with a run that belongs to the chart, if it was given one
+pub cycle-keeps : (c : Chart) (r : Run) (clock inputs lent : ℕ) → belongs c r ≡ true → belongs c (cycleOf c r clock inputs lent .run) ≡ true
+cycle-keeps c r clock inputs lent h = go (eqb (cycleOf c r clock inputs lent .code) 0) refl
+  where
+    go : (b : Bool) → eqb (cycleOf c r clock inputs lent .code) 0 ≡ b → belongs c (cycleOf c r clock inputs lent .run) ≡ true
+    go true e = cycle-belongs c r clock inputs lent (eqb-true _ 0 e)
+    go false e = ap (λ (o : Cycled). belongs c (o .run)) (cycle-refused c r clock inputs lent (eqb-false _ 0 e)) ∙ h

@@ -21,6 +21,7 @@ use Rattle.report.specs.Tracing.{bodyDue, recordFits, callAt}
 use Rattle.report.specs.Printing.{lineOf, printedAt, printedFrom, printedRun}
 use Rattle.report.specs.declared.tracing.Call.{Call}
 use Rattle.report.specs.declared.tracing.Call.the-variants.{Start, Cycle, End, Refused}
+use Rattle.report.proofs.printing.Laws.{one-printed}
 use Rattle.report.proofs.tracing.Laws.{due, after-start, after-cycle}
 
 -- a number that lies in the front is read from there
@@ -62,10 +63,6 @@ module _ (s : List ℕ) (long : 65536 < length s) where
     abbrev Same : ℕ → ℕ → Type 0
     Same f g = (n at : ℕ) (run : Run) → length front - at < f → length s - at < g → at ≡ 12 * n - 4 → at ≤ 65528 → printedFrom f c front n at run ≡ printedFrom g c s n at run
 
-    one-printed : (more : ℕ) (t : List ℕ) (n at : ℕ) (run : Run) (x : Call) → callAt t at ≡ x → printedFrom (suc more) c t n at run ≡ printedAt c n at run x (printedFrom more c t (n + 1))
-    unfolding printedFrom
-    one-printed more t n at run x e = rw e
-
     one-same : (f g n at : ℕ) (run : Run) (x : Call) → callAt front at ≡ x → callAt s at ≡ x → length front - at < suc f → length s - at < suc g → at ≡ 12 * n - 4 → Same f g
         → printedAt c n at run x (printedFrom f c front (n + 1)) ≡ printedAt c n at run x (printedFrom g c s (n + 1))
     one-same f g n at run (Start clock) d e l m h on =
@@ -83,9 +80,9 @@ module _ (s : List ℕ) (long : 65536 < length s) where
     same zero g n at run l m h q = absurd (omega arith)
     same (suc f) zero n at run l m h q = absurd (omega arith)
     same (suc f) (suc g) n at run l m h q =
-        one-printed f front n at run (callAt s at) (same-call n at h q)
+        one-printed f c front n at run (callAt s at) (same-call n at h q)
         ∙ one-same f g n at run (callAt s at) (same-call n at h q) refl l m h (same f g)
-        ∙ sym (one-printed g s n at run (callAt s at) refl)
+        ∙ sym (one-printed g c s n at run (callAt s at) refl)
 
 pub enough : (chart trace : List ℕ) → printedRun chart (take 65536 trace) ≡ printedRun chart trace
 enough chart trace = go (leb (length trace) 65536) refl

@@ -1,5 +1,5 @@
 -- Each step's line and standing, branch by branch, and that the steps come nearer to the end.
-use Prim.Native.Nat.{ℕ, _+_, _-_, _≤_, _<_}
+use Prim.Native.Nat.{ℕ, suc, _+_, _-_, _≤_, _<_}
 use mathlib.Core.Bool.{Bool, true, false, cond}
 use mathlib.Core.List.{List}
 use mathlib.Core.Path.{_≡_, refl, ap, _∙_}
@@ -15,13 +15,18 @@ use Rattle.cycle.specs.declared.cycling.Cycled.{Cycled}
 use Rattle.report.specs.Lines.{Put, chartLine, traceLine}
 use Rattle.report.specs.Tallying.{tallyOf}
 use Rattle.report.specs.Tracing.{callAt}
-use Rattle.report.specs.Printing.{lineOf, closingLine, numberAt, stepped, unmoved, lineFor, standingFor, Prints, nextLine, nextStanding, printedOf, lineAfter}
+use Rattle.report.specs.Printing.{lineOf, closingLine, printedAt, printedFrom, numberAt, stepped, unmoved, lineFor, standingFor, Prints, nextLine, nextStanding, printedOf, lineAfter}
 use Rattle.report.specs.declared.tallying.Tallied.{Tallied}
 use Rattle.report.specs.declared.tracing.Call.{Call}
 use Rattle.report.specs.declared.tracing.Call.the-variants.{Start, Cycle, End, Refused}
 use Rattle.report.specs.declared.printing.Standing.{Standing}
 use Rattle.report.specs.declared.printing.Printed.{Printed}
 use Rattle.report.proofs.tracing.Laws.{start-there, cycle-there}
+
+-- what is printed from a place on begins with what stands there
+pub one-printed : (more : ℕ) (c : Chart) (s : List ℕ) (n at : ℕ) (run : Run) (x : Call) → callAt s at ≡ x → printedFrom (suc more) c s n at run ≡ printedAt c n at run x (printedFrom more c s (n + 1))
+unfolding printedFrom
+one-printed more c s n at run x e = rw e
 
 -- ---- the steps end: how much is left falls with each
 

@@ -17,7 +17,7 @@ use Rattle.cycle.specs.Cycling.{startOf, cycleOf}
 use Rattle.cycle.specs.declared.run.Run.{Run}
 use Rattle.cycle.specs.declared.cycling.Cycled.{Cycled}
 use Rattle.cycle.proofs.belongs.Laws.{none-own}
-use Rattle.cycle.proofs.cycling.Kept.{start-belongs, cycle-belongs, cycle-refused}
+use Rattle.cycle.proofs.cycling.Kept.{start-belongs, cycle-keeps}
 use Rattle.report.specs.Lines.{chartLine, traceLine, tallyLine}
 use Rattle.report.specs.Tallying.{tallyOf}
 use Rattle.report.specs.Tracing.{callAt}
@@ -25,6 +25,7 @@ use Rattle.report.specs.Printing.{lineOf, closingLine, printedAt, printe
 use Rattle.report.specs.declared.tracing.Call.{Call}
 use Rattle.report.specs.declared.tracing.Call.the-variants.{Start, Cycle, End, Refused}
 use Rattle.report.specs.declared.printing.Standing.{Standing}
+use Rattle.report.proofs.printing.Laws.{one-printed}
 use Rattle.report.proofs.tracing.Laws.{after-start, after-cycle}
 
 abbrev standing : Bool → ℕ → Run → Standing
@@ -88,14 +89,6 @@ module _ (c : Chart) (s : List ℕ) (passes : chartCode c ≡ 0) where
   start-fits : (clock : ℕ) → belongs c (startOf c clock 32 .run) ≡ true
   start-fits clock = start-belongs c clock 32 (started-code clock)
 
-  -- a refused cycle hands the run back
-  cycle-fits : (run : Run) (clock inputs : ℕ) → belongs c run ≡ true → belongs c (cycleOf c run clock inputs 32 .run) ≡ true
-  cycle-fits run clock inputs h = go (eqb (cycleOf c run clock inputs 32 .code) 0) refl
-    where
-      go : (b : Bool) → eqb (cycleOf c run clock inputs 32 .code) 0 ≡ b → belongs c (cycleOf c run clock inputs 32 .run) ≡ true
-      go true e = cycle-belongs c run clock inputs 32 (eqb-true _ 0 e)
-      go false e = ap (λ (o : Cycled). belongs c (o .run)) (cycle-refused c run clock inputs 32 (eqb-false _ 0 e)) ∙ h
-
   tally-line : (n : ℕ) (run : Run) → belongs c run ≡ true → closingLine n (tallyOf c run) ≡ tallyLine (tallyOf c run .passed) (tallyOf c run .failed) (tallyOf c run .notrun)
   tally-line n run h = rw (passes, h)
 
@@ -116,10 +109,6 @@ module _ (c : Chart) (s : List ℕ) (passes : chartCode c ≡ 0) where
   unfolding standingAfter
   one-after k at run x e = rw (call-stands at run x e)
 
-  one-printed : (more n at : ℕ) (run : Run) (x : Call) → callAt s at ≡ x → printedFrom (suc more) c s n at run ≡ printedAt c n at run x (printedFrom more c s (n + 1))
-  unfolding printedFrom
-  one-printed more n at run x e = rw e
-
   -- one step, with what follows it at hand
   abbrev Follows : ℕ → ℕ → Type 0
   Follows k more = (n at : ℕ) (run : Run) → length s - at < more → at ≡ 12 * n - 4 → belongs c run ≡ true → Prints k more n at run
@@ -127,14 +116,14 @@ module _ (c : Chart) (s : List ℕ) (passes : chartCode c ≡ 0) where
   call-prints : (more k n at at' : ℕ) (run : Run) (o : Cycled) (x : Call) → callAt s at ≡ x → lineFor c at run x ≡ lineOf (numberAt at) o → standingFor c at run x ≡ standing false at' (o .run)
       → printedAt c n at run x (printedFrom more c s (n + 1)) ≡ lineOf n o ++ printedFrom more c s (n + 1) at' (o .run) → numberAt at ≡ n → Prints k more (n + 1) at' (o .run) → Prints (suc k) (suc more) n at run
   call-prints more k n at at' run o x e line then all num p = record {
-    lines = one-line k at run x e ∙ rw (line, then, num, p .lines) (sym (one-printed more n at run x e ∙ all));
+    lines = one-line k at run x e ∙ rw (line, then, num, p .lines) (sym (one-printed more c s n at run x e ∙ all));
     ends = ap (λ (st : Standing). st .done) (one-after k at run x e) ∙ rw then (p .ends);
   }
 
   last-prints : (more k n at : ℕ) (run : Run) (t : List ℕ) (x : Call) → callAt s at ≡ x → lineFor c at run x ≡ t → standingFor c at run x ≡ standing true at run
       → printedAt c n at run x (printedFrom more c s (n + 1)) ≡ t → Prints (suc k) (suc more) n at run
   last-prints more k n at run t x e line then all = record {
-    lines = one-line k at run x e ∙ rw (line, then, done-lines 0 c s k at run, append-nil t) (sym (one-printed more n at run x e ∙ all));
+    lines = one-line k at run x e ∙ rw (line, then, done-lines 0 c s k at run, append-nil t) (sym (one-printed more c s n at run x e ∙ all));
     ends = ap (λ (st : Standing). st .done) (one-after k at run x e) ∙ rw (then, done-after 0 c s k at run);
   }
 
@@ -144,7 +133,7 @@ module _ (c : Chart) (s : List ℕ) (passes : chartCode c ≡ 0) where
       call-prints more k n at (at + 8) run (startOf c clock 32) (Start clock) e refl refl refl (numbered n at h) (on (n + 1) (at + 8) (startOf c clock 32 .run) (o .fewer) (o .place) (start-fits clock))
   step more k n at run (Cycle clock inputs) e l h b on =
       let o = after-cycle s n at more clock inputs h l e in
-      call-prints more k n at (at + 12) run (cycleOf c run clock inputs 32) (Cycle clock inputs) e refl refl refl (numbered n at h) (on (n + 1) (at + 12) (cycleOf c run clock inputs 32 .run) (o .fewer) (o .place) (cycle-fits run clock inputs b))
+      call-prints more k n at (at + 12) run (cycleOf c run clock inputs 32) (Cycle clock inputs) e refl refl refl (numbered n at h) (on (n + 1) (at + 12) (cycleOf c run clock inputs 32 .run) (o .fewer) (o .place) (cycle-keeps c run clock inputs 32 b))
   step more k n at run End e l h b on = last-prints more k n at run _ End e (tally-line (numberAt at) run b) refl refl
   step more k n at run Refused e l h b on = last-prints more k n at run traceLine Refused e refl refl refl
 

@@ -12,7 +12,7 @@ use Rattle.sets.proofs.Counts.{summed-more, summed-turn}
 use Rattle.reader.specs.Fields.{unless}
 use Rattle.reader.specs.Held.{chartCode}
 use Rattle.reader.specs.declared.chart.Chart.{Chart}
-use Rattle.reader.proofs.held.Most.{chart-most}
+use Rattle.reader.proofs.held.Each.{chart-most}
 use Rattle.cycle.specs.Moving.{initialSet, initialOf}
 use Rattle.report.specs.Weighing.{weightIn, balanced, unbalancedIn, refused, weighed, weighOf}
 use Rattle.report.specs.declared.weighing.Weighed.{Weighed}
