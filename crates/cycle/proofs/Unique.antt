@@ -11,7 +11,7 @@ use Rattle.cycle.specs.Run.{noRun, longerCounter, longerTimer}
 use Rattle.cycle.specs.Time.{elapsed}
 use Rattle.cycle.specs.Moving.{initialOf}
 use Rattle.cycle.specs.Belongs.{belongsTo}
-use Rattle.cycle.specs.Cycling.{startOf, cycleOf, outputsAfter}
+use Rattle.cycle.specs.Cycling.{startOf, cycleOf, outputsAfter, cycleOn}
 use Rattle.cycle.specs.declared.run.StepCounter.{StepCounter}
 use Rattle.cycle.specs.declared.run.ActionTimer.{ActionTimer}
 use Rattle.cycle.specs.declared.run.Run.{Run}
@@ -46,3 +46,7 @@ start-unique c clock r q out f g = both c (startOf c clock (length out)) r q out
 pub cycle-unique : (c : Chart) (run : Run) (clock inputs : ℕ) (r q : Cycled) (out f g : List ℤ) → r ≡ cycleOf c run clock inputs (length out) → q ≡ cycleOf c run clock inputs (length out)
     → f ≡ outputsAfter c r out → g ≡ outputsAfter c q out → (r ≡ q) × (f ≡ g)
 cycle-unique c run clock inputs r q out f g = both c (cycleOf c run clock inputs (length out)) r q out f g
+
+-- on lent tables: the answer and the outputs together
+pub cycle-on-unique : (c : Chart) (run : Run) (clock inputs : ℕ) (out : List ℤ) (r q : Cycled × List ℤ) → r ≡ cycleOn c run clock inputs out → q ≡ cycleOn c run clock inputs out → r ≡ q
+cycle-on-unique c run clock inputs out r q = one-answer

@@ -10,7 +10,7 @@ use mathlib.Core.Bool.{Bool, false, _&&_, _||_, cond}
 use lib.ListN.{getD}
 use lib.Dec.{leb, ltb, eqb}
 use Rattle.sets.specs.Sets.{has, union, inter, minus, insert, named}
-use Rattle.reader.specs.Fields.{N, R, S, L, D, P, SD, DS, P1, timing}
+use Rattle.reader.specs.Fields.{N, R, S, L, D, P, SD, DS, SL, P1, P0}
 use Rattle.cycle.specs.Moving.{keptCount}
 use Rattle.cycle.specs.declared.acting.Steps.{Steps}
 use Rattle.cycle.specs.declared.acting.Request.{Request}
@@ -18,27 +18,20 @@ use Rattle.cycle.specs.declared.acting.Request.the-variants.{Reset, Set,
 use Rattle.cycle.specs.declared.acting.Asked.{Asked}
 use Rattle.cycle.specs.declared.acting.Acted.{Acted}
 
--- N, R, S, P, P1, and P0: the step is active, was entered, was left
-abbrev pub untimedRequest : ℕ → Bool → Bool → Bool → Request
-untimedRequest q on entered left =
+-- what a block asks by its qualifier and duration: its step is active, was entered, was left; the step's counter, the action's timer
+abbrev pub request : ℕ → ℕ → Bool → Bool → Bool → ℕ → ℕ → Request
+request q d on entered left count time =
     cond (eqb q N) (Want on)
     (cond (eqb q R) (Reset on)
     (cond (eqb q S) (Set on)
-    (cond (eqb q P) (Want (entered || left))
-    (cond (eqb q P1) (Want entered) (Want left)))))
-
--- L, D, SD, DS, and SL: the duration, the step's counter, the action's timer
-abbrev pub timedRequest : ℕ → ℕ → Bool → ℕ → ℕ → Request
-timedRequest q d on count time =
-    cond (eqb q L) (Want (on && ltb count d))
+    (cond (eqb q L) (Want (on && ltb count d))
     (cond (eqb q D) (Want (on && leb d count))
+    (cond (eqb q P) (Want (entered || left))
     (cond (eqb q SD) (Latch on (leb d time))
-    (cond (eqb q DS) (Set (on && leb d count)) (Latch on (ltb time d)))))
-
-abbrev pub request : ℕ → ℕ → Bool → Bool → Bool → ℕ → ℕ → Request
-request q d on entered left count time =
-    cond (eqb (timing q) 1) (timedRequest q d on count time)
-    (cond (eqb (timing q) 0) (untimedRequest q on entered left) (Want false))
+    (cond (eqb q DS) (Set (on && leb d count))
+    (cond (eqb q SL) (Latch on (ltb time d))
+    (cond (eqb q P1) (Want entered)
+    (cond (eqb q P0) (Want left) (Want false)))))))))))
 
 -- what a request comes to
 abbrev pub resets : Request → Bool
@@ -85,9 +78,6 @@ putting x a r = record {
 abbrev pub requestAt : ℕ → ℕ → ℕ → ℕ → ℕ → Steps → Request
 requestAt s q d count time steps =
     request q d (has (steps .active) s) (has (steps .entered) s) (has (steps .left) s) (keptCount (steps .kept) s count) time
-
-abbrev pub askingAt : Asked → ℕ → ℕ → ℕ → ℕ → ℕ → ℕ → Steps → Asked
-askingAt x s a q d count time steps = putting x a (requestAt s q d count time steps)
 
 -- block b's request
 abbrev pub requestOf : List ℕ → List ℕ → List ℕ → List ℕ → List ℕ → List ℕ → Steps → ℕ → Request

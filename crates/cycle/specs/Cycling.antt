@@ -3,7 +3,7 @@ use Prim.Native.Nat.{ℕ, _≤_, _<_}
 use mathlib.Core.List.{List, _++_}
 use mathlib.Core.Bool.{cond}
 use lib.IntN.{ℤ}
-use lib.ListN.{getD, replicate, drop}
+use lib.ListN.{length, getD, replicate, drop}
 use lib.Dec.{leb, eqb}
 use Rattle.sets.specs.Loops.{orElse}
 use Rattle.sets.specs.Sets.{union}
@@ -26,6 +26,31 @@ use Rattle.cycle.specs.declared.cycling.Cycled.{Cycled}
 
 abbrev pub refused : ℕ → Run → Cycled
 refused code run = record { code = code; taken = 0; run = run }
+
+-- the chart of lent tables
+abbrev pub chartOf : ℕ → ℕ → ℕ → ℕ → ℕ → List ℕ → List ℕ → List ℤ → List ℕ → List ℕ → List ℕ → List ℕ → List ℕ → List ℕ → List ℕ → List ℕ → List ℕ → List ℕ → List ℕ → List ℕ → Chart
+chartOf steps actions transitions blocks cases initial output value sources targets on off wait blockstep blockaction qualifier duration casestep signal expected = record {
+  steps = steps;
+  actions = actions;
+  transitions = transitions;
+  blocks = blocks;
+  cases = cases;
+  initial = initial;
+  output = output;
+  value = value;
+  sources = sources;
+  targets = targets;
+  on = on;
+  off = off;
+  wait = wait;
+  blockstep = blockstep;
+  blockaction = blockaction;
+  qualifier = qualifier;
+  duration = duration;
+  casestep = casestep;
+  signal = signal;
+  expected = expected;
+}
 
 -- "Start tests 15 and then the chart"
 abbrev pub startCode : Chart → ℕ → ℕ
@@ -107,3 +132,13 @@ cycleOf c r clock inputs lent = cond (eqb (cycleCode c r clock lent) 0) (cycled 
 abbrev pub outputsAfter : Chart → Cycled → List ℤ → List ℤ
 outputsAfter c o out =
     cond (eqb (o .code) 0) (outputsOf (c .actions) (c .output) (c .value) (o .run .activity) ++ drop 32 out) out
+
+-- an answer with the outputs it leaves
+abbrev pub withOutputs : Chart → List ℤ → Cycled → Cycled × List ℤ
+withOutputs c out o = (o, outputsAfter c o out)
+
+abbrev pub movedOn : Chart → Run → ℕ → ℕ → List ℤ → Cycled × List ℤ
+movedOn c r clock inputs out = withOutputs c out (cycled c r clock inputs)
+
+abbrev pub cycleOn : Chart → Run → ℕ → ℕ → List ℤ → Cycled × List ℤ
+cycleOn c r clock inputs out = withOutputs c out (cycleOf c r clock inputs (length out))

@@ -2,8 +2,9 @@
 ghost use mathlib.Core.Path.{_≡_};
 ghost use Prim.Native.Nat.{ℕ, _≤_, _<_};
 ghost use lib.ListN.{getD};
-ghost use Rattle.cycle.specs.Acting.{untimedRequest, timedRequest, request, putting, askingAt, asked, acted};
-use crate::moving;
+ghost use Rattle.cycle.specs.Moving.{keptCount};
+ghost use Rattle.cycle.specs.Acting.{putting, requestAt, asked, acted};
+use crate::words;
 use reader::numbers;
 
 // The steps that blocks go by: active now, entered, left, and those whose counter runs on.
@@ -37,86 +38,71 @@ pub struct Acted {
     pub activity: u64,
 }
 
-fn untimed_request(qualifier: u8, on: bool, entered: bool, left: bool) -> Request
-    ensures { λ r. ⌜ r ≡ untimedRequest qualifier on entered left ⌝ }
+// A step's counter once the steps have moved.
+fn count_of(kept: u64, step: usize, counts: &[u32; 64]) -> u32
+    requires { ⌜ step < 64 ⌝ }
+    ensures { λ r. ⌜ r ≡ keptCount kept step (getD (now (counts .entry)) step 0) ⌝ }
 {
-    match qualifier {
-        0 => Request::Want(on),
-        1 => Request::Reset(on),
-        2 => Request::Set(on),
-        5 => Request::Want(entered | left),
-        9 => Request::Want(entered),
-        _ => Request::Want(left),
+    if words::is_in(kept, step) {
+        counts[step]
+    } else {
+        0
     }
 }
 
-fn timed_request(qualifier: u8, duration: u32, on: bool, count: u32, time: u32) -> Request
-    ensures { λ r. ⌜ r ≡ timedRequest qualifier duration on count time ⌝ }
-{
-    match qualifier {
-        3 => Request::Want(on & (count < duration)),
-        4 => Request::Want(on & (duration <= count)),
-        6 => Request::Latch(on, duration <= time),
-        7 => Request::Set(on & (duration <= count)),
-        _ => Request::Latch(on, time < duration),
-    }
-}
-
-fn asks(
+// Each qualifier asks only what it needs: most blocks of a chart go by one membership alone.
+fn asks<'a>(
     qualifier: u8,
     duration: u32,
-    on: bool,
-    entered: bool,
-    left: bool,
-    count: u32,
-    time: u32,
+    step: usize,
+    action: usize,
+    counts: &'a [u32; 64],
+    times: &'a [u32; 32],
+    steps: Steps,
 ) -> Request
-    ensures { λ r. ⌜ r ≡ request qualifier duration on entered left count time ⌝ }
+    requires { ⌜ (step < 64) × (action < 32) ⌝ }
+    ensures { λ r. ⌜ r ≡ requestAt step qualifier duration (getD (now (counts .entry)) step 0) (getD (now (times .entry)) action 0) steps ⌝ }
 {
     match qualifier {
-        3..=4 | 6..=8 => timed_request(qualifier, duration, on, count, time),
-        0..=10 => untimed_request(qualifier, on, entered, left),
-        _ => Request::Want(false),
+        0 => Request::Want(words::is_in(steps.active, step)),
+        1 => Request::Reset(words::is_in(steps.active, step)),
+        2 => Request::Set(words::is_in(steps.active, step)),
+        3 => {
+            let count = count_of(steps.kept, step, counts);
+            Request::Want(words::is_in(steps.active, step) & (count < duration))
+        }
+        4 => {
+            let count = count_of(steps.kept, step, counts);
+            Request::Want(words::is_in(steps.active, step) & (duration <= count))
+        }
+        5 => Request::Want(words::is_in(sets::joined(steps.entered, steps.left), step)),
+        6 => Request::Latch(words::is_in(steps.active, step), duration <= times[action]),
+        7 => {
+            let count = count_of(steps.kept, step, counts);
+            Request::Set(words::is_in(steps.active, step) & (duration <= count))
+        }
+        8 => Request::Latch(words::is_in(steps.active, step), times[action] < duration),
+        9 => Request::Want(words::is_in(steps.entered, step)),
+        10 => Request::Want(words::is_in(steps.left, step)),
+        11..=255 => Request::Want(false),
     }
 }
 
 fn put(asked: Asked, action: usize, r: Request) -> Asked
+    requires { ⌜ action < 64 ⌝ }
     ensures { λ q. ⌜ q ≡ putting asked action r ⌝ }
 {
     let mut next = asked;
     match r {
-        Request::Reset(yes) => next.reset = sets::with_if(asked.reset, action, yes),
-        Request::Set(yes) => next.set = sets::with_if(asked.set, action, yes),
+        Request::Reset(yes) => next.reset = words::with_if(asked.reset, action, yes),
+        Request::Set(yes) => next.set = words::with_if(asked.set, action, yes),
         Request::Latch(yes, ripe) => {
-            next.latch = sets::with_if(asked.latch, action, yes);
-            next.ripe = sets::with_if(asked.ripe, action, ripe);
+            next.latch = words::with_if(asked.latch, action, yes);
+            next.ripe = words::with_if(asked.ripe, action, ripe);
         }
-        Request::Want(yes) => next.want = sets::with_if(asked.want, action, yes),
+        Request::Want(yes) => next.want = words::with_if(asked.want, action, yes),
     }
     next
-}
-
-fn ask(
-    asked: Asked,
-    step: usize,
-    action: usize,
-    qualifier: u8,
-    duration: u32,
-    count: u32,
-    time: u32,
-    steps: Steps,
-) -> Asked
-    ensures { λ r. ⌜ r ≡ askingAt asked step action qualifier duration count time steps ⌝ }
-{
-    let on = sets::is_in(steps.active, step);
-    let entered = sets::is_in(steps.entered, step);
-    let left = sets::is_in(steps.left, step);
-    let n = moving::kept_count(steps.kept, step, count);
-    put(
-        asked,
-        action,
-        asks(qualifier, duration, on, entered, left, n, time),
-    )
 }
 
 pub(crate) fn ask_blocks<'a>(
@@ -143,16 +129,8 @@ pub(crate) fn ask_blocks<'a>(
     while i < n {
         let s = numbers::index_of(blockstep[i]);
         let a = numbers::index_of(blockaction[i]);
-        asked = ask(
-            asked,
-            s,
-            a,
-            qualifier[i],
-            duration[i],
-            counts[s],
-            times[a],
-            steps,
-        );
+        let r = asks(qualifier[i], duration[i], s, a, counts, times, steps);
+        asked = put(asked, a, r);
         i += 1;
     }
     asked

@@ -20,6 +20,9 @@ fn ripe_at(wait: u32, sources: u64, k: usize, count: u32) -> bool
 fn is_ripe(wait: u32, sources: u64, counts: &[u32; 64]) -> bool
     ensures { λ r. ⌜ r ≡ ripe wait sources (now (counts .entry)) ⌝ }
 {
+    if wait == 0 {
+        return true;
+    }
     let mut k = 0;
     while k < 64 {
         if !ripe_at(wait, sources, k, counts[k]) {

@@ -1,10 +1,14 @@
 // Start and one cycle, each on a chart and a run by value, with the chart's tables lent to what is below.
 ghost use mathlib.Core.Path.{_≡_};
+ghost use mathlib.Core.Bool.{true};
 ghost use mathlib.Core.List.{_++_};
+ghost use Prim.Native.Nat.{_≤_};
 ghost use lib.ListN.{length, drop};
+ghost use Rattle.reader.specs.Held.{chartCode};
+ghost use Rattle.cycle.specs.Belongs.{belongs};
 ghost use Rattle.cycle.specs.Acting.{asked, acted};
 ghost use Rattle.cycle.specs.Outputs.{outputsOf};
-ghost use Rattle.cycle.specs.Cycling.{Settles, startOf, cycleOf, outputsAfter, refused};
+ghost use Rattle.cycle.specs.Cycling.{Settles, chartOf, cycleCode, startOf, movedOn, cycleOf, cycleOn, outputsAfter, refused};
 use crate::acting;
 use crate::acting::Acted;
 use crate::acting::Steps;
@@ -77,27 +81,7 @@ pub fn start(chart: Chart, clock: u32, outputs: &mut [i32]) -> Cycled
     if outputs.len() < 32 {
         return refused(FEW_OUTPUTS, no_run());
     }
-    let code = reader::held_code(
-        chart.steps,
-        chart.actions,
-        chart.transitions,
-        chart.blocks,
-        chart.cases,
-        &chart.initial,
-        &chart.output,
-        &chart.sources,
-        &chart.targets,
-        &chart.on,
-        &chart.off,
-        &chart.wait,
-        &chart.blockstep,
-        &chart.blockaction,
-        &chart.qualifier,
-        &chart.duration,
-        &chart.casestep,
-        &chart.signal,
-        &chart.expected,
-    );
+    let code = reader::chart_code(chart);
     if code != 0 {
         return refused(code, no_run());
     }
@@ -144,91 +128,142 @@ pub fn start(chart: Chart, clock: u32, outputs: &mut [i32]) -> Cycled
     }
 }
 
-pub fn cycle(chart: Chart, run: Run, clock: u32, inputs: u32, outputs: &mut [i32]) -> Cycled
-    ensures { λ r. ⌜ (r ≡ cycleOf chart run clock inputs (length (now (outputs .entry)))) × (now (outputs .exit) ≡ outputsAfter chart r (now (outputs .entry))) ⌝ }
+// A cycle's tests in their order.
+fn cycle_code<'a>(
+    steps: usize,
+    actions: usize,
+    transitions: usize,
+    blocks: usize,
+    cases: usize,
+    initial: &'a [u8; 64],
+    output: &'a [u8; 32],
+    value: &'a [i32; 32],
+    sources: &'a [u64; 64],
+    targets: &'a [u64; 64],
+    on: &'a [u64; 64],
+    off: &'a [u64; 64],
+    wait: &'a [u32; 64],
+    blockstep: &'a [u8; 256],
+    blockaction: &'a [u8; 256],
+    qualifier: &'a [u8; 256],
+    duration: &'a [u32; 256],
+    casestep: &'a [u8; 64],
+    signal: &'a [u8; 64],
+    expected: &'a [u8; 64],
+    run: Run,
+    clock: u32,
+    lent: usize,
+) -> u8
+    ensures { λ r. ⌜ r ≡ cycleCode (chartOf steps actions transitions blocks cases (now (initial .entry)) (now (output .entry)) (now (value .entry)) (now (sources .entry)) (now (targets .entry)) (now (on .entry)) (now (off .entry)) (now (wait .entry)) (now (blockstep .entry)) (now (blockaction .entry)) (now (qualifier .entry)) (now (duration .entry)) (now (casestep .entry)) (now (signal .entry)) (now (expected .entry))) run clock lent ⌝ }
 {
-    if outputs.len() < 32 {
-        return refused(FEW_OUTPUTS, run);
+    if lent < 32 {
+        return FEW_OUTPUTS;
     }
     let code = reader::held_code(
-        chart.steps,
-        chart.actions,
-        chart.transitions,
-        chart.blocks,
-        chart.cases,
-        &chart.initial,
-        &chart.output,
-        &chart.sources,
-        &chart.targets,
-        &chart.on,
-        &chart.off,
-        &chart.wait,
-        &chart.blockstep,
-        &chart.blockaction,
-        &chart.qualifier,
-        &chart.duration,
-        &chart.casestep,
-        &chart.signal,
-        &chart.expected,
+        steps,
+        actions,
+        transitions,
+        blocks,
+        cases,
+        initial,
+        output,
+        sources,
+        targets,
+        on,
+        off,
+        wait,
+        blockstep,
+        blockaction,
+        qualifier,
+        duration,
+        casestep,
+        signal,
+        expected,
     );
     if code != 0 {
-        return refused(code, run);
+        return code;
     }
-    if !belongs::belongs(run, chart.steps, chart.actions, chart.cases) {
-        return refused(OTHER_RUN, run);
+    if !belongs::belongs(run, steps, actions, cases) {
+        return OTHER_RUN;
     }
+    if 60000 < time::elapsed(run.clock, clock) {
+        return TOO_LATE;
+    }
+    0
+}
+
+// Paragraphs 1 to 6, on a chart and a run that passed the tests.
+fn moved_on<'a>(
+    steps: usize,
+    actions: usize,
+    transitions: usize,
+    blocks: usize,
+    cases: usize,
+    initial: &'a [u8; 64],
+    output: &'a [u8; 32],
+    value: &'a [i32; 32],
+    sources: &'a [u64; 64],
+    targets: &'a [u64; 64],
+    on: &'a [u64; 64],
+    off: &'a [u64; 64],
+    wait: &'a [u32; 64],
+    blockstep: &'a [u8; 256],
+    blockaction: &'a [u8; 256],
+    qualifier: &'a [u8; 256],
+    duration: &'a [u32; 256],
+    casestep: &'a [u8; 64],
+    signal: &'a [u8; 64],
+    expected: &'a [u8; 64],
+    run: Run,
+    clock: u32,
+    inputs: u32,
+    outputs: &mut [i32],
+) -> Cycled
+    requires { ⌜ (chartCode (chartOf steps actions transitions blocks cases (now initial) (now output) (now value) (now sources) (now targets) (now on) (now off) (now wait) (now blockstep) (now blockaction) (now qualifier) (now duration) (now casestep) (now signal) (now expected)) ≡ 0) × (belongs (chartOf steps actions transitions blocks cases (now initial) (now output) (now value) (now sources) (now targets) (now on) (now off) (now wait) (now blockstep) (now blockaction) (now qualifier) (now duration) (now casestep) (now signal) (now expected)) run ≡ true) × (32 ≤ length (now outputs)) ⌝ }
+    ensures { λ r. ⌜ (r, now (outputs .exit)) ≡ movedOn (chartOf steps actions transitions blocks cases (now (initial .entry)) (now (output .entry)) (now (value .entry)) (now (sources .entry)) (now (targets .entry)) (now (on .entry)) (now (off .entry)) (now (wait .entry)) (now (blockstep .entry)) (now (blockaction .entry)) (now (qualifier .entry)) (now (duration .entry)) (now (casestep .entry)) (now (signal .entry)) (now (expected .entry))) run clock inputs (now (outputs .entry)) ⌝ }
+{
     let e = time::elapsed(run.clock, clock);
-    if 60000 < e {
-        return refused(TOO_LATE, run);
-    }
     let counters = run.counters;
     let timers = run.timers;
     let counts = time::grown_counts(counters, run.active, e);
     let times = time::grown_times(timers, run.latched, e);
     let signals = moving::signals_of(inputs, run.activity);
     let choice = choosing::choose(
-        chart.transitions,
-        &chart.sources,
-        &chart.targets,
-        &chart.on,
-        &chart.off,
-        &chart.wait,
+        transitions,
+        sources,
+        targets,
+        on,
+        off,
+        wait,
         &counts,
         run.active,
         signals,
     );
-    let steps = choosing::steps_of(run.active, choice);
-    let marks = moving::marks_of(
-        chart.cases,
-        &chart.casestep,
-        &chart.signal,
-        &chart.expected,
-        choice.left,
-        signals,
-    );
+    let moved = choosing::steps_of(run.active, choice);
+    let marks = moving::marks_of(cases, casestep, signal, expected, choice.left, signals);
     let acts = settle(
         outputs,
-        chart.actions,
-        &chart.output,
-        &chart.value,
-        chart.blocks,
-        &chart.blockstep,
-        &chart.blockaction,
-        &chart.qualifier,
-        &chart.duration,
+        actions,
+        output,
+        value,
+        blocks,
+        blockstep,
+        blockaction,
+        qualifier,
+        duration,
         &counts,
         &times,
-        steps,
+        moved,
         run.stored,
         run.latched,
     );
     let next = Run {
         clock,
-        active: steps.active,
+        active: moved.active,
         activity: acts.activity,
         stored: acts.stored,
         latched: acts.latched,
-        counters: moving::settled_counters(&counts, steps.kept),
+        counters: moving::settled_counters(&counts, moved.kept),
         timers: moving::settled_timers(&times, acts.latched),
         good: sets::joined(run.good, marks.good),
         bad: sets::joined(run.bad, marks.bad),
@@ -238,4 +273,120 @@ pub fn cycle(chart: Chart, run: Run, clock: u32, inputs: u32, outputs: &mut [i32
         taken: choice.taken,
         run: next,
     }
+}
+
+// A cycle on a chart's lent tables: a caller that holds the chart hands no copy of it down.
+pub fn cycle_on<'a>(
+    steps: usize,
+    actions: usize,
+    transitions: usize,
+    blocks: usize,
+    cases: usize,
+    initial: &'a [u8; 64],
+    output: &'a [u8; 32],
+    value: &'a [i32; 32],
+    sources: &'a [u64; 64],
+    targets: &'a [u64; 64],
+    on: &'a [u64; 64],
+    off: &'a [u64; 64],
+    wait: &'a [u32; 64],
+    blockstep: &'a [u8; 256],
+    blockaction: &'a [u8; 256],
+    qualifier: &'a [u8; 256],
+    duration: &'a [u32; 256],
+    casestep: &'a [u8; 64],
+    signal: &'a [u8; 64],
+    expected: &'a [u8; 64],
+    run: Run,
+    clock: u32,
+    inputs: u32,
+    outputs: &mut [i32],
+) -> Cycled
+    ensures { λ r. ⌜ (r, now (outputs .exit)) ≡ cycleOn (chartOf steps actions transitions blocks cases (now (initial .entry)) (now (output .entry)) (now (value .entry)) (now (sources .entry)) (now (targets .entry)) (now (on .entry)) (now (off .entry)) (now (wait .entry)) (now (blockstep .entry)) (now (blockaction .entry)) (now (qualifier .entry)) (now (duration .entry)) (now (casestep .entry)) (now (signal .entry)) (now (expected .entry))) run clock inputs (now (outputs .entry)) ⌝ }
+{
+    let code = cycle_code(
+        steps,
+        actions,
+        transitions,
+        blocks,
+        cases,
+        initial,
+        output,
+        value,
+        sources,
+        targets,
+        on,
+        off,
+        wait,
+        blockstep,
+        blockaction,
+        qualifier,
+        duration,
+        casestep,
+        signal,
+        expected,
+        run,
+        clock,
+        outputs.len(),
+    );
+    if code != 0 {
+        return refused(code, run);
+    }
+    moved_on(
+        steps,
+        actions,
+        transitions,
+        blocks,
+        cases,
+        initial,
+        output,
+        value,
+        sources,
+        targets,
+        on,
+        off,
+        wait,
+        blockstep,
+        blockaction,
+        qualifier,
+        duration,
+        casestep,
+        signal,
+        expected,
+        run,
+        clock,
+        inputs,
+        outputs,
+    )
+}
+
+pub fn cycle(chart: Chart, run: Run, clock: u32, inputs: u32, outputs: &mut [i32]) -> Cycled
+    ensures { λ r. ⌜ (r ≡ cycleOf chart run clock inputs (length (now (outputs .entry)))) × (now (outputs .exit) ≡ outputsAfter chart r (now (outputs .entry))) ⌝ }
+{
+    cycle_on(
+        chart.steps,
+        chart.actions,
+        chart.transitions,
+        chart.blocks,
+        chart.cases,
+        &chart.initial,
+        &chart.output,
+        &chart.value,
+        &chart.sources,
+        &chart.targets,
+        &chart.on,
+        &chart.off,
+        &chart.wait,
+        &chart.blockstep,
+        &chart.blockaction,
+        &chart.qualifier,
+        &chart.duration,
+        &chart.casestep,
+        &chart.signal,
+        &chart.expected,
+        run,
+        clock,
+        inputs,
+        outputs,
+    )
 }

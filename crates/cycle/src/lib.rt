@@ -8,9 +8,11 @@ pub mod moving;
 pub mod outputs;
 pub mod run;
 pub mod time;
+pub mod words;
 
 pub use cycling::Cycled;
 pub use cycling::cycle;
+pub use cycling::cycle_on;
 pub use cycling::start;
 pub use run::Run;
 pub use run::no_run;

@@ -1,43 +1,42 @@
 // Paragraph 3 of "One cycle": counters of what moved, and the marks of the cases on left steps.
 ghost use mathlib.Core.Path.{_≡_};
-ghost use Prim.Native.Nat.{_≤_, _<_, _^_};
-ghost use Rattle.sets.specs.Sets.{has};
-ghost use Rattle.cycle.specs.Moving.{keptCount, settledCounters, settledTimers, asExpected, marksOf, initialSet, initialOf, signalsOf};
+ghost use Prim.Native.Nat.{ℕ, _≤_, _<_, _^_};
+ghost use lib.ListN.{getD};
+ghost use Rattle.cycle.specs.Moving.{settledCounters, settledTimers, asExpected, marksOf, initialSet, initialOf, signalsOf};
 use crate::run::ActionTimer;
 use crate::run::StepCounter;
+use crate::words;
+use reader::numbers;
 
 pub struct Marks {
     pub good: u64,
     pub bad: u64,
 }
 
-// The number at k if k is kept, else 0.
-pub(crate) fn kept_count(kept: u64, k: usize, n: u32) -> u32
-    ensures { λ r. ⌜ r ≡ keptCount kept k n ⌝ }
-{
-    if sets::is_in(kept, k) { n } else { 0 }
-}
-
+// Only what is kept is written: the others' 0 stands from the beginning.
 pub(crate) fn settled_counters(counts: &[u32; 64], kept: u64) -> [StepCounter; 64]
     ensures { λ r. ⌜ r ≡ settledCounters (now (counts .entry)) kept ⌝ }
 {
     let mut out = [StepCounter(0); 64];
-    let mut k = 0;
-    while k < 64 {
-        out[k] = StepCounter(kept_count(kept, k, counts[k]));
-        k += 1;
+    let mut rest = kept;
+    while rest != 0 {
+        let k = sets::first(rest);
+        out[k] = StepCounter(counts[k]);
+        rest = sets::without_first(rest);
     }
     out
 }
 
 pub(crate) fn settled_timers(times: &[u32; 32], kept: u64) -> [ActionTimer; 32]
+    requires { ⌜ kept < 2 ^ 32 ⌝ }
     ensures { λ r. ⌜ r ≡ settledTimers (now (times .entry)) kept ⌝ }
 {
     let mut out = [ActionTimer(0); 32];
-    let mut k = 0;
-    while k < 32 {
-        out[k] = ActionTimer(kept_count(kept, k, times[k]));
-        k += 1;
+    let mut rest = kept;
+    while rest != 0 {
+        let k = sets::first(rest);
+        out[k] = ActionTimer(times[k]);
+        rest = sets::without_first(rest);
     }
     out
 }
@@ -50,16 +49,11 @@ pub(crate) fn signals_of(inputs: u32, activity: u64) -> u64
     (inputs as u64) | (activity << 32)
 }
 
-fn as_expected(signal: u8, expected: u8, signals: u64) -> bool
+fn as_expected(signal: usize, expected: u8, signals: u64) -> bool
+    requires { ⌜ signal < 64 ⌝ }
     ensures { λ r. ⌜ r ≡ asExpected signal expected signals ⌝ }
 {
-    sets::is_in(signals, signal as usize) == (expected == 1)
-}
-
-fn is_left(step: u8, left: u64) -> bool
-    ensures { λ r. ⌜ r ≡ has left step ⌝ }
-{
-    sets::is_in(left, step as usize)
+    words::is_in(signals, signal) == (expected == 1)
 }
 
 pub(crate) fn marks_of<'a>(
@@ -70,17 +64,18 @@ pub(crate) fn marks_of<'a>(
     left: u64,
     signals: u64,
 ) -> Marks
-    requires { ⌜ n ≤ 64 ⌝ }
+    requires { ⌜ (n ≤ 64) × ((k : ℕ) → k < n → (getD (now step) k 0 < 64) × (getD (now signal) k 0 < 64)) ⌝ }
     ensures { λ r. ⌜ r ≡ marksOf n (now (step .entry)) (now (signal .entry)) (now (expected .entry)) left signals ⌝ }
 {
     let mut good = 0u64;
     let mut bad = 0u64;
     let mut i = 0;
     while i < n {
-        let done = is_left(step[i], left);
-        let fine = as_expected(signal[i], expected[i], signals);
-        good = sets::with_if(good, i, done & fine);
-        bad = sets::with_if(bad, i, done & !fine);
+        if words::is_in(left, numbers::index_of(step[i])) {
+            let fine = as_expected(numbers::index_of(signal[i]), expected[i], signals);
+            good = words::with_if(good, i, fine);
+            bad = words::with_if(bad, i, !fine);
+        }
         i += 1;
     }
     Marks { good, bad }

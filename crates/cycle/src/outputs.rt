@@ -1,10 +1,10 @@
 // Paragraph 6 of "One cycle": the outputs, in one pass from the last action to the first, so that the first active one wins.
 ghost use mathlib.Core.Path.{_≡_};
-ghost use mathlib.Core.Bool.{cond};
 ghost use mathlib.Core.List.{_++_};
 ghost use Prim.Native.Nat.{ℕ, _≤_, _<_};
 ghost use lib.ListN.{length, getD, drop};
 ghost use Rattle.cycle.specs.Outputs.{outputsOf, wiped, driven};
+use crate::words;
 use reader::numbers;
 
 fn wipe(out: &mut [i32])
@@ -18,12 +18,6 @@ fn wipe(out: &mut [i32])
     }
 }
 
-fn pick(b: bool, x: i32, y: i32) -> i32
-    ensures { λ r. ⌜ r ≡ cond b x y ⌝ }
-{
-    if b { x } else { y }
-}
-
 // Each output's first active action drives it; an output that none drives keeps what it had.
 fn drive<'a>(out: &mut [i32], n: usize, output: &'a [u8; 32], value: &'a [i32; 32], activity: u64)
     requires { ⌜ (32 ≤ length (now out)) × (n ≤ 32) × ((a : ℕ) → a < n → getD (now output) a 0 < 32) ⌝ }
@@ -32,10 +26,9 @@ fn drive<'a>(out: &mut [i32], n: usize, output: &'a [u8; 32], value: &'a [i32; 3
     let mut a = n;
     while 0 < a {
         a -= 1;
-        let to = numbers::index_of(output[a]);
-        let old = out[to];
-        let new = value[a];
-        out[to] = pick(sets::is_in(activity, a), new, old);
+        if words::is_in(activity, a) {
+            out[numbers::index_of(output[a])] = value[a];
+        }
     }
 }
 

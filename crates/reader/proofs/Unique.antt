@@ -1,7 +1,10 @@
--- Two answers that one statement allows are equal, for each public function. `record_at`'s is in framing/Laws.
+-- Two answers that one statement allows are equal, for each public function, the three `_from` by their width. `record_at`'s is in framing/Laws.
 use Prim.Native.Nat.{ℕ, _<_}
 use mathlib.Core.List.{List}
 use mathlib.Core.Path.{_≡_}
+use lib.IntN.{ℤ}
+use mir.Syntax.{w32}
+use mir.Val.{toZ}
 use Rattle.sets.proofs.Unique.{one-answer}
 use Rattle.reader.specs.Numbers.{leFrom}
 use Rattle.reader.specs.Chart.{noChart}
@@ -18,6 +21,9 @@ index-of-unique x r q e f = one-answer (e .0) (f .0)
 
 pub from-unique : (w : ℕ) (s : List ℕ) (at r q : ℕ) → r ≡ leFrom w s at → q ≡ leFrom w s at → r ≡ q
 from-unique w s at r q = one-answer
+
+pub signed-unique : (x : ℕ) (r q : ℤ) → r ≡ toZ w32 x → q ≡ toZ w32 x → r ≡ q
+signed-unique x r q = one-answer
 
 pub chart-code-unique : (c : Chart) (r q : ℕ) → r ≡ chartCode c → q ≡ chartCode c → r ≡ q
 chart-code-unique c r q = one-answer

@@ -85,11 +85,13 @@ transitionCode steps actions sources targets on off wait =
     orElse (unless (transitionFits steps actions sources targets on off wait) 5)
     (orElse (unless (stepsDiffer sources targets) 6) (unless (Apart on off) 7))
 
+abbrev pub blockNames : ℕ → ℕ → ℕ → ℕ → ℕ → Bool
+blockNames steps actions step action qualifier = ltb step steps && ltb action actions && leb (timing qualifier) 1
+
 -- timed qualifiers "may have duration 0; the others must have duration 0"
 abbrev pub blockFits : ℕ → ℕ → ℕ → ℕ → ℕ → ℕ → Bool
 blockFits steps actions step action qualifier duration =
-    ltb step steps && ltb action actions && leb (timing qualifier) 1 && leb duration longest
-    && (eqb (timing qualifier) 1 || eqb duration 0)
+    blockNames steps actions step action qualifier && leb duration longest && (eqb (timing qualifier) 1 || eqb duration 0)
 
 abbrev pub caseFits : ℕ → ℕ → ℕ → ℕ → ℕ → Bool
 caseFits steps actions step signal expected =

@@ -1,7 +1,9 @@
 // The numbers of refusal of a record's fields, kind by kind: 5, and of transitions 5, 6, 7 in this order.
 ghost use mathlib.Core.Path.{_≡_};
+ghost use Prim.Native.Nat.{_+_};
 ghost use Rattle.sets.specs.Loops.{orElse};
-ghost use Rattle.reader.specs.Fields.{timed, timing, unless, stepFits, actionFits, signalExists, signalsExist, transitionFits, transitionCode, blockFits, caseFits};
+ghost use Rattle.sets.specs.Sets.{beyond};
+ghost use Rattle.reader.specs.Fields.{timed, timing, unless, stepFits, actionFits, signalExists, transitionFits, transitionCode, blockFits, caseFits};
 use crate::codes::BAD_FIELD;
 use crate::codes::BAD_SIGNALS;
 use crate::codes::BAD_STEPS;
@@ -57,11 +59,14 @@ pub(crate) fn action_fits(output: u8) -> bool
     output <= 31
 }
 
-// The inputs are signals 0 to 31; a set of signals names actions from its bit 32 on.
-fn signals_exist(signals: u64, actions: usize) -> bool
-    ensures { λ r. ⌜ r ≡ signalsExist signals actions ⌝ }
+// The signals that don't exist: the inputs are signals 0 to 31, and a set of signals names actions from its bit 32 on.
+fn no_signals(actions: usize) -> u64
+    ensures { λ r. ⌜ r ≡ beyond (32 + actions) ⌝ }
 {
-    sets::names_below(signals >> 32, actions)
+    if actions < 32 {
+        return sets::beyond(32 + actions);
+    }
+    0
 }
 
 pub(crate) fn transition_fits(
@@ -75,10 +80,8 @@ pub(crate) fn transition_fits(
 ) -> bool
     ensures { λ r. ⌜ r ≡ transitionFits steps actions sources targets on off wait ⌝ }
 {
-    sets::names_below(sources, steps)
-        & sets::names_below(targets, steps)
-        & signals_exist(on, actions)
-        & signals_exist(off, actions)
+    sets::is_apart(sets::joined(sources, targets), sets::beyond(steps))
+        & sets::is_apart(sets::joined(on, off), no_signals(actions))
         & (wait <= LONGEST)
 }
 

@@ -1,8 +1,10 @@
 // The test of a chart that a caller held and may have altered: 4, then records by kind with 5, 6, 7, then 9, 8.
-// Every call of the engine makes it, so each table is one pass without a branch on its entries; only transitions stop at the first refusal.
+// Every call of the engine makes it, so its passes have no branch on what an entry is, but for transitions, which stop at the first refusal,
+// and for timed blocks, which are few.
 ghost use mathlib.Core.Path.{_≡_};
 ghost use Prim.Native.Nat.{_≤_};
-ghost use Rattle.reader.specs.Held.{limitsFit, stepsCode, actionsCode, transitionsCode, blocksCode, casesCode, someInitial, timedTwice, closingCode, heldCode, chartCode};
+ghost use Rattle.sets.specs.Loops.{all};
+ghost use Rattle.reader.specs.Held.{limitsFit, stepsCode, actionsCode, transitionsCode, blockNamesAt, durationFitsAt, untimedFitsAt, blocksCode, casesCode, someInitial, timedTwice, closingCode, heldCode, chartCode};
 use crate::chart::Chart;
 use crate::codes::BAD_FIELD;
 use crate::codes::NO_INITIAL;
@@ -75,6 +77,53 @@ fn transitions_code<'a>(
     0
 }
 
+// Bytes compared as bytes: the compiler makes vectors of this pass, and of the next.
+fn block_names_fit<'a>(
+    n: usize,
+    steps: u8,
+    actions: u8,
+    blockstep: &'a [u8; 256],
+    blockaction: &'a [u8; 256],
+    qualifier: &'a [u8; 256],
+) -> bool
+    requires { ⌜ n ≤ 256 ⌝ }
+    ensures { λ r. ⌜ r ≡ all (blockNamesAt steps actions (now (blockstep .entry)) (now (blockaction .entry)) (now (qualifier .entry))) n ⌝ }
+{
+    let mut fit = true;
+    let mut i = 0;
+    while i < n {
+        fit = fit & (blockstep[i] < steps) & (blockaction[i] < actions) & (qualifier[i] <= 10);
+        i += 1;
+    }
+    fit
+}
+
+fn durations_fit(n: usize, duration: &[u32; 256]) -> bool
+    requires { ⌜ n ≤ 256 ⌝ }
+    ensures { λ r. ⌜ r ≡ all (durationFitsAt (now (duration .entry))) n ⌝ }
+{
+    let mut fit = true;
+    let mut i = 0;
+    while i < n {
+        fit = fit & (duration[i] <= fields::LONGEST);
+        i += 1;
+    }
+    fit
+}
+
+fn untimed_fit<'a>(n: usize, qualifier: &'a [u8; 256], duration: &'a [u32; 256]) -> bool
+    requires { ⌜ n ≤ 256 ⌝ }
+    ensures { λ r. ⌜ r ≡ all (untimedFitsAt (now (qualifier .entry)) (now (duration .entry))) n ⌝ }
+{
+    let mut fit = true;
+    let mut i = 0;
+    while i < n {
+        fit = fit & (fields::is_timed(qualifier[i]) | (duration[i] == 0));
+        i += 1;
+    }
+    fit
+}
+
 fn blocks_code<'a>(
     n: usize,
     steps: usize,
@@ -84,23 +133,18 @@ fn blocks_code<'a>(
     qualifier: &'a [u8; 256],
     duration: &'a [u32; 256],
 ) -> u8
-    requires { ⌜ n ≤ 256 ⌝ }
+    requires { ⌜ (n ≤ 256) × (steps ≤ 64) × (actions ≤ 32) ⌝ }
     ensures { λ r. ⌜ r ≡ blocksCode n steps actions (now (blockstep .entry)) (now (blockaction .entry)) (now (qualifier .entry)) (now (duration .entry)) ⌝ }
 {
-    let mut fit = true;
-    let mut i = 0;
-    while i < n {
-        fit = fit
-            & fields::block_fits(
-                steps,
-                actions,
-                blockstep[i],
-                blockaction[i],
-                qualifier[i],
-                duration[i],
-            );
-        i += 1;
-    }
+    let names = block_names_fit(
+        n,
+        steps as u8,
+        actions as u8,
+        blockstep,
+        blockaction,
+        qualifier,
+    );
+    let fit = names & durations_fit(n, duration) & untimed_fit(n, qualifier, duration);
     fields::unless(fit, BAD_FIELD)
 }
 
@@ -112,13 +156,15 @@ fn cases_code<'a>(
     signal: &'a [u8; 64],
     expected: &'a [u8; 64],
 ) -> u8
-    requires { ⌜ n ≤ 64 ⌝ }
+    requires { ⌜ (n ≤ 64) × (steps ≤ 64) × (actions ≤ 32) ⌝ }
     ensures { λ r. ⌜ r ≡ casesCode n steps actions (now (casestep .entry)) (now (signal .entry)) (now (expected .entry)) ⌝ }
 {
+    let existing = steps as u8;
+    let signals = 32 + actions as u8;
     let mut fit = true;
     let mut i = 0;
     while i < n {
-        fit = fit & fields::case_fits(steps, actions, casestep[i], signal[i], expected[i]);
+        fit = fit & (casestep[i] < existing) & (signal[i] < signals) & (expected[i] <= 1);
         i += 1;
     }
     fields::unless(fit, BAD_FIELD)
@@ -145,11 +191,11 @@ fn timed_twice<'a>(n: usize, blockaction: &'a [u8; 256], qualifier: &'a [u8; 256
     let mut twice = false;
     let mut i = 0;
     while i < n {
-        let timed = fields::is_timed(qualifier[i]);
-        let a = numbers::index_of(blockaction[i]);
-        let again = seen[a];
-        twice = twice | (timed & again);
-        seen[a] = again | timed;
+        if fields::is_timed(qualifier[i]) {
+            let a = numbers::index_of(blockaction[i]);
+            twice = twice | seen[a];
+            seen[a] = true;
+        }
         i += 1;
     }
     twice

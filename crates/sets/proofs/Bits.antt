@@ -25,10 +25,10 @@ bit-or a b k =
 pub bit-shr : (s n k : ℕ) → bit (s / 2 ^ n) k ≡ bit s (n + k)
 bit-shr s n k = ap (λ (x : ℕ). x % 2) (shr-shr s n k)
 
-bit-suc : (s k : ℕ) → bit s (suc k) ≡ bit (s / 2) k
+pub bit-suc : (s k : ℕ) → bit s (suc k) ≡ bit (s / 2) k
 bit-suc s k = ap (λ (e : ℕ). s / 2 ^ e % 2) (omega arith) ∙ sym (bit-shr s 1 k)
 
-bit-first : (s : ℕ) → bit s 0 ≡ s % 2
+pub bit-first : (s : ℕ) → bit s 0 ≡ s % 2
 bit-first s = omega arith
 
 double : (n : ℕ) → 2 ^ suc n ≡ 2 ^ n * 2

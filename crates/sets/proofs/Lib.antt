@@ -2,6 +2,8 @@ pub mod Below
 pub mod Bits
 pub mod Counts
 pub mod Examples
+pub mod Least
 pub mod Loops
 pub mod Members
 pub mod Unique
+pub mod Visits

@@ -40,6 +40,15 @@ pub and-no : (b : Bool) → b && false ≡ false
 and-no true = refl
 and-no false = refl
 
+pub and-assoc : (x y z : Bool) → x && (y && z) ≡ (x && y) && z
+and-assoc true y z = refl
+and-assoc false y z = refl
+
+-- a test of three parts, as a loop's code joins it to what is in hand
+pub and-three : (ok a b c : Bool) → ok && a && b && c ≡ ok && (a && b && c)
+and-three true a b c = refl
+and-three false a b c = refl
+
 pub eqb-sym : (a b : ℕ) → eqb a b ≡ eqb b a
 eqb-sym a b = bool-eq (eqb a b) (eqb b a) (λ e. eq-eqb b a (sym (eqb-true a b e))) (λ e. eq-eqb a b (sym (eqb-true b a e)))
 
@@ -57,6 +66,9 @@ all-turn p k e h = rw (add-one, e, h)
 pub all-more : (p : ℕ → Bool) (k : ℕ) {b : Bool} → all p k ≡ true → b ≡ p k → b ≡ true → all p (k + 1) ≡ true
 unfolding all
 all-more p k e q h = rw (add-one, e, ← q, h)
+
+pub all-end : (p : ℕ → Bool) (n k : ℕ) → all p k ≡ true → n ≤ k → k ≤ n → true ≡ all p n
+all-end p n k e a b = sym (ap (all p) (le-antisymm a b) ∙ e)
 
 pub all-true : (p : ℕ → Bool) (n : ℕ) → all p n ≡ true → (k : ℕ) → k < n → p k ≡ true
 unfolding all
@@ -77,8 +89,21 @@ all-fails p n k {b} l q h = go (all p n) refl
     go true e = let z : p k ≡ true = all-true p n e k l in cc
     go false e = refl
 
-pub all-end : (p : ℕ → Bool) (n k : ℕ) → all p k ≡ true → n ≤ k → k ≤ n → true ≡ all p n
-all-end p n k e a b = sym (ap (all p) (le-antisymm a b) ∙ e)
+pub all-same : (p q : ℕ → Bool) (n : ℕ) → ((k : ℕ) → k < n → p k ≡ q k) → all p n ≡ all q n
+unfolding all
+all-same p q zero h = refl
+all-same p q (suc n) h = ap₂ _&&_ (all-same p q n (λ k l. h k (omega arith))) (h n (omega arith))
+
+-- two tests of all in one
+pub all-both : (p q : ℕ → Bool) (n : ℕ) → all p n && all q n ≡ all (λ k. p k && q k) n
+unfolding all
+all-both p q zero = refl
+all-both p q (suc n) = go (all p n) (p n) (all q n) (q n) ∙ ap (λ (x : Bool). x && (p n && q n)) (all-both p q n)
+  where
+    go : (a b c d : Bool) → (a && b) && (c && d) ≡ (a && c) && (b && d)
+    go true true c d = refl
+    go true false c d = sym (and-no c)
+    go false b c d = refl
 
 pub all-done : (p : ℕ → Bool) {n : ℕ} (k : ℕ) {ok : Bool} → ok ≡ all p k → n ≤ k → k ≤ n → ok ≡ all p n
 all-done p k e a b = e ∙ ap (all p) (le-antisymm b a)

@@ -6,14 +6,14 @@ use Prim.Native.Nat.{ℕ, zero, suc, _+_, _-_, _*_, _/_, _%_, _^_, _≤_, _<_, m
 use native.Mathlib.Nat.{eq-or-lt-of-le, le-of-suc-le-suc, one-mul, mod-eq-of-lt, lt-of-le-of-lt, lt-trans, mod-lt}
 use native.Mathlib.Numerals.{add-one}
 use native.Mathlib.Omega.{arith}
-use lib.Dec.{eqb, ltb}
-use lib.Pow.{pow-lt, pow-pos, split, shr-le, shr-shr, shl-shr}
+use lib.Dec.{eqb, ltb, leb}
+use lib.Pow.{pow-lt, pow-pos, split, shr-le, shl-shr, field, mod-mod-pow}
 use lib.Bits.{bitAnd, bitOr, and-lt, or-lt, or-shifted-r, and-shifted}
-use borrow.Author.Tests.{eqb-true, eqb-false, eq-eqb, ne-eqb, lt-ltb, le-ltb, ltb-true, ltb-false, not-true}
+use borrow.Author.Tests.{eqb-true, eqb-false, eq-eqb, ne-eqb, lt-ltb, le-ltb, le-leb, lt-leb, leb-true, leb-false, ltb-true, ltb-false, not-true}
 use Rattle.sets.specs.Loops.{all, some}
-use Rattle.sets.specs.Sets.{bit, has, collect, Within, Apart, Below, union, inter, minus, insert, named}
+use Rattle.sets.specs.Sets.{bit, has, collect, Within, Apart, Below, union, inter, minus, insert, named, beyond}
 use Rattle.sets.proofs.Bits.{bit-lt, bit-and, bit-or, bit-shr, ext, bit-zero, bit-high, bit-pow-same, bit-pow-other, bit-not}
-use Rattle.sets.proofs.Loops.{some-start, eqb-sym, bool-eq, all-true, true-all, or-false, or-true, and-yes}
+use Rattle.sets.proofs.Loops.{some-start, eqb-sym, bool-eq, all-true, true-all, all-same, all-both, or-false, or-true, and-yes}
 
 -- ---- a word is its members
 
@@ -193,10 +193,6 @@ pub all-below : (s n : ℕ) → s < 2 ^ 64 → 64 ≤ n → true ≡ Below s n
 all-below s n hs l =
     sym (true-all (λ k. not (has s k) || ltb k n) 64 (λ k m. ap (λ (b : Bool). not (has s k) || b) (lt-ltb k n (omega arith)) ∙ or-true (not (has s k))))
 
-pub below-shr : (s j n : ℕ) → s < 2 ^ 64 → Below (s / 2 ^ j) n ≡ Below s (j + n)
-below-shr s j n hs =
-    sym (shr-below (s / 2 ^ j) n (lt-of-le-of-lt (shr-le s j) hs)) ∙ ap (λ (x : ℕ). eqb x 0) (shr-shr s j n) ∙ shr-below s (j + n) hs
-
 -- ---- a loop that collects: number k put in if p holds of it
 
 pub collect-start : (p : ℕ → Bool) → 0 ≡ collect p 0
@@ -246,6 +242,48 @@ pub has-shl-low : (s j k : ℕ) → k < j → has (s * 2 ^ j) k ≡ false
 has-shl-low s j k l =
     and-yes (has (s * 2 ^ j) k) ∙ ap (λ (b : Bool). has (s * 2 ^ j) k && b) (sym (has-pow k k ∙ eq-eqb k k refl)) ∙ sym (has-and (s * 2 ^ j) (2 ^ k) k)
     ∙ ap (λ (x : ℕ). has x k) (and-shifted s j (2 ^ k) (pow-lt l)) ∙ has-zero k
+
+has-mod : (n s k : ℕ) → k < n → has (s % 2 ^ n) k ≡ has s k
+has-mod n s k l =
+    let e : n - k - 1 + 1 + k ≡ n = omega arith in
+    ap (λ (m : ℕ). has (s % 2 ^ m) k) (sym e) ∙ ap (λ (x : ℕ). eqb (x % 2) 1) (field s (n - k - 1 + 1) k) ∙ ap (λ (x : ℕ). eqb x 1) (mod-mod-pow (s / 2 ^ k) (n - k - 1) 1)
+
+-- ---- all numbers from n on
+
+has-full : (k : ℕ) → k < 64 → has 18446744073709551615 k ≡ true
+has-full k l = has-not 0 k (omega arith) l ∙ ap not (has-zero k)
+
+pub shl-beyond : (n : ℕ) → n < 64 → 18446744073709551615 * 2 ^ n % 2 ^ 64 ≡ beyond n
+shl-beyond n h =
+    by-members (18446744073709551615 * 2 ^ n % 2 ^ 64) (λ k. leb n k) (mod-lt _ (pow-pos 64))
+    (λ k l. has-mod 64 (18446744073709551615 * 2 ^ n) k l ∙ go k l (leb n k) refl)
+  where
+    go : (k : ℕ) → k < 64 → (b : Bool) → leb n k ≡ b → has (18446744073709551615 * 2 ^ n) k ≡ b
+    go k l true e = has-shl-high 18446744073709551615 n k (leb-true n k e) ∙ has-full (k - n) (omega arith)
+    go k l false e = has-shl-low 18446744073709551615 n k (leb-false n k e)
+
+pub none-beyond : (n : ℕ) → 64 ≤ n → 0 ≡ beyond n
+none-beyond n h = by-members 0 (λ k. leb n k) (omega arith) (λ k l. has-zero k ∙ sym (lt-leb n k (omega arith)))
+
+has-beyond : (n k : ℕ) → k < 64 → has (beyond n) k ≡ not (ltb k n)
+has-beyond n k l = has-collect (λ k. leb n k) 64 k l ∙ go (ltb k n) refl
+  where
+    go : (t : Bool) → ltb k n ≡ t → leb n k ≡ not t
+    go true e = lt-leb n k (ltb-true k n e)
+    go false e = le-leb n k (ltb-false k n e)
+
+-- two sets name only numbers below n if neither has a number from n on
+pub apart-beyond : (a b n : ℕ) → Apart (union a b) (beyond n) ≡ (Below a n && Below b n)
+apart-beyond a b n =
+    all-same _ _ 64 (λ k l. ap₂ (λ (x y : Bool). not (x && y)) (has-collect (λ k. has a k || has b k) 64 k l) (has-beyond n k l) ∙ go (has a k) (has b k) (ltb k n))
+    ∙ sym (all-both (λ k. not (has a k) || ltb k n) (λ k. not (has b k) || ltb k n) 64)
+  where
+    go : (x y t : Bool) → not ((x || y) && not t) ≡ ((not x || t) && (not y || t))
+    go true y true = sym (or-true (not y))
+    go true y false = refl
+    go false true true = refl
+    go false true false = refl
+    go false false t = refl
 
 -- a set that names only numbers below n is below 2 ^ n
 pub below-lt : (s n : ℕ) → s < 2 ^ 64 → Below s n ≡ true → s < 2 ^ n

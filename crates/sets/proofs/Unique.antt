@@ -2,7 +2,7 @@
 use Prim.Native.Nat.{ℕ}
 use mathlib.Core.Bool.{Bool, cond}
 use mathlib.Core.Path.{_≡_, sym, _∙_}
-use Rattle.sets.specs.Sets.{has, Within, Apart, Below, union, inter, minus, insert, size}
+use Rattle.sets.specs.Sets.{has, Within, Apart, Below, union, inter, minus, insert, beyond, first, remove, size}
 
 pub one-answer : {A : Type 0} {x r q : A} → r ≡ x → q ≡ x → r ≡ q
 one-answer e f = e ∙ sym f
@@ -34,5 +34,14 @@ common-unique a b r q = one-answer
 pub with-if-unique : (s k : ℕ) (b : Bool) (r q : ℕ) → r ≡ cond b (insert s k) s → q ≡ cond b (insert s k) s → r ≡ q
 with-if-unique s k b r q = one-answer
 
+pub beyond-unique : (n r q : ℕ) → r ≡ beyond n → q ≡ beyond n → r ≡ q
+beyond-unique n r q = one-answer
+
 pub size-unique : (s r q : ℕ) → r ≡ size s → q ≡ size s → r ≡ q
 size-unique s r q = one-answer
+
+pub first-unique : (s r q : ℕ) → r ≡ first s → q ≡ first s → r ≡ q
+first-unique s r q = one-answer
+
+pub without-first-unique : (s r q : ℕ) → r ≡ remove s (first s) → q ≡ remove s (first s) → r ≡ q
+without-first-unique s r q = one-answer

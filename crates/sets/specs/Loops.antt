@@ -2,7 +2,7 @@
 use mathlib.Core.Bool.{Bool, true, false, _&&_, _||_, cond}
 use mathlib.Core.List.{List, [], _∷_}
 use Prim.Native.Nat.{ℕ, zero, suc, _+_}
-use lib.Dec.{eqb}
+use lib.Dec.{eqb, ltb}
 
 -- p holds of every number below n
 unfoldable pub all : (ℕ → Bool) → ℕ → Bool
@@ -13,6 +13,11 @@ all p (suc n) = all p n && p n
 unfoldable pub some : (ℕ → Bool) → ℕ → Bool
 some p zero = false
 some p (suc n) = some p n || p n
+
+-- the first number below n of which p holds, n if there is none
+unfoldable pub firstOf : (ℕ → Bool) → ℕ → ℕ
+firstOf p zero = 0
+firstOf p (suc n) = cond (ltb (firstOf p n) n) (firstOf p n) (cond (p n) n (suc n))
 
 -- f 0 + f 1 + .., n of them
 unfoldable pub summed : (ℕ → ℕ) → ℕ → ℕ

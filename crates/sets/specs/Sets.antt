@@ -1,8 +1,8 @@
 -- 64-bit sets: "bit k is number k". Each set and each test is given by its members below 64, and computes on concrete numbers.
 use mathlib.Core.Bool.{Bool, _&&_, _||_, not, cond}
 use Prim.Native.Nat.{ℕ, zero, suc, _+_, _/_, _%_, _^_}
-use lib.Dec.{eqb, ltb}
-use Rattle.sets.specs.Loops.{all, some, counted}
+use lib.Dec.{eqb, ltb, leb}
+use Rattle.sets.specs.Loops.{all, some, firstOf, counted}
 
 -- bit k of s, 0 or 1
 abbrev pub bit : ℕ → ℕ → ℕ
@@ -49,6 +49,18 @@ insert s k = collect (λ j. has s j || eqb j k) 64
 abbrev pub named : (ℕ → Bool) → (ℕ → ℕ) → ℕ → ℕ
 named p f n = collect (λ a. some (λ b. p b && eqb (f b) a) n) 64
 
+-- all numbers from n on
+abbrev pub beyond : ℕ → ℕ
+beyond n = collect (λ k. leb n k) 64
+
 -- how many members s has
 abbrev pub size : ℕ → ℕ
 size s = counted (λ k. has s k) 64
+
+-- the least member, 64 if there is none
+abbrev pub first : ℕ → ℕ
+first s = firstOf (λ k. has s k) 64
+
+-- s without k
+abbrev pub remove : ℕ → ℕ → ℕ
+remove s k = collect (λ j. has s j && not (eqb j k)) 64

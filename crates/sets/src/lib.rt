@@ -1,7 +1,7 @@
 // Sets of numbers below 64 as one word: bit k is number k (document 01, "The chart and its bytes").
 ghost use mathlib.Core.Path.{_≡_};
 ghost use mathlib.Core.Bool.{cond};
-ghost use Rattle.sets.specs.Sets.{has, Within, Apart, Below, union, inter, minus, insert, size};
+ghost use Rattle.sets.specs.Sets.{has, Within, Apart, Below, union, inter, minus, insert, beyond, first, remove, size};
 
 pub fn is_in(s: u64, k: usize) -> bool
     ensures { λ r. ⌜ r ≡ has s k ⌝ }
@@ -68,8 +68,33 @@ pub fn with_if(s: u64, k: usize, b: bool) -> u64
     if b { with(s, k) } else { s }
 }
 
+pub fn beyond(n: usize) -> u64
+    ensures { λ r. ⌜ r ≡ beyond n ⌝ }
+{
+    if n < 64 {
+        return u64::MAX << n;
+    }
+    0
+}
+
 pub fn size(s: u64) -> usize
     ensures { λ r. ⌜ r ≡ size s ⌝ }
 {
     u64::count_ones(s) as usize
+}
+
+// A loop over the members of a set asks for its first, then goes on without it.
+pub fn first(s: u64) -> usize
+    ensures { λ r. ⌜ r ≡ first s ⌝ }
+{
+    u64::trailing_zeros(s) as usize
+}
+
+pub fn without_first(s: u64) -> u64
+    ensures { λ r. ⌜ r ≡ remove s (first s) ⌝ }
+{
+    if s == 0 {
+        return 0;
+    }
+    s & (s - 1)
 }

@@ -9,7 +9,7 @@ use Rattle.sets.specs.Sets.{has, union, inter, minus}
 use Rattle.sets.proofs.Loops.{and-no}
 use Rattle.sets.proofs.Members.{named-start, named-turn}
 use Rattle.sets.proofs.Below.{has-union, has-minus}
-use Rattle.cycle.specs.Acting.{askingAt, asked, resets, sets, latches, wants, ripens, requestOf, storedAfter, latchedAfter, acted}
+use Rattle.cycle.specs.Acting.{putting, asked, resets, sets, latches, wants, ripens, requestAt, requestOf, storedAfter, latchedAfter, acted}
 use Rattle.cycle.specs.declared.acting.Steps.{Steps}
 use Rattle.cycle.specs.declared.acting.Request.{Request}
 use Rattle.cycle.specs.declared.acting.Asked.{Asked}
@@ -32,9 +32,7 @@ module _ (step action qualifier duration counts times : List ℕ) (steps : Steps
         ← named-start (λ b. ripens (asks b)) of,
       )
 
-  turn : (b : ℕ)
-      → askingAt (asked b step action qualifier duration counts times steps) (getD step b 0) (getD action b 0) (getD qualifier b 0) (getD duration b 0) (getD counts (getD step b 0) 0) (getD times (getD action b 0) 0) steps
-      ≡ asked (suc b) step action qualifier duration counts times steps
+  turn : (b : ℕ) → putting (asked b step action qualifier duration counts times steps) (of b) (asks b) ≡ asked (suc b) step action qualifier duration counts times steps
   unfolding asked
   turn b =
       rw (
@@ -45,10 +43,10 @@ module _ (step action qualifier duration counts times : List ℕ) (steps : Steps
         named-turn (λ b. ripens (asks b)) of b,
       )
 
-  pub one-asked : (b : ℕ) (x y : Asked) (s a : ℕ) → x ≡ asked b step action qualifier duration counts times steps → s ≡ getD step b 0 → a ≡ getD action b 0
-      → y ≡ askingAt x s a (getD qualifier b 0) (getD duration b 0) (getD counts s 0) (getD times a 0) steps
+  pub one-asked : (b : ℕ) (x y : Asked) (s a : ℕ) (r : Request) → x ≡ asked b step action qualifier duration counts times steps → s ≡ getD step b 0 → a ≡ getD action b 0
+      → r ≡ requestAt s (getD qualifier b 0) (getD duration b 0) (getD counts s 0) (getD times a 0) steps → y ≡ putting x a r
       → y ≡ asked (b + 1) step action qualifier duration counts times steps
-  one-asked b x y s a e p q h = h ∙ rw (e, p, q, add-one) (turn b)
+  one-asked b x y s a r e p q w h = h ∙ rw (w, e, p, q, add-one) (turn b)
 
 -- ---- reset wins, and only a reset clears a latch
 

@@ -1,5 +1,5 @@
 -- What a run that belongs to a chart is.
-use Prim.Native.Nat.{_^_, _<_}
+use Prim.Native.Nat.{ℕ, _^_, _<_}
 use mathlib.Core.Bool.{true}
 use mathlib.Core.Path.{_≡_, refl}
 use native.Mathlib.Nat.{lt-of-lt-of-le}
@@ -39,10 +39,9 @@ own c r e =
 pub is-own : (c : Chart) (r : Run) → Own c r → belongs c r ≡ true
 is-own c r o = rw (o .active, o .activity, o .stored, o .latched, o .good, o .bad, o .counters, o .timers)
 
--- activity is a set of actions, so it fits above the inputs
-pub activity-fits : (c : Chart) (r : Run) → Sound c → belongs c r ≡ true → r .activity < 2 ^ 64 → r .activity < 2 ^ 32
-activity-fits c r s e h =
-    lt-of-lt-of-le (below-lt (r .activity) (c .actions) h (own c r e .activity)) (pow-mono (s .limits .actions))
+-- a set of actions fits into 32 bits
+pub actions-fit : (c : Chart) (s : ℕ) → Sound c → Below s (c .actions) ≡ true → s < 2 ^ 64 → s < 2 ^ 32
+actions-fit c s o e h = lt-of-lt-of-le (below-lt s (c .actions) h e) (pow-mono (o .limits .actions))
 
 -- the all-zero run belongs to every chart
 none-counters : countersFit (noRun .counters) 0 ≡ true

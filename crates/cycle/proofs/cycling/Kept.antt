@@ -30,6 +30,7 @@ use Rattle.cycle.specs.declared.acting.Acted.{Acted}
 use Rattle.cycle.specs.declared.run.Run.{Run}
 use Rattle.cycle.specs.declared.cycling.Cycled.{Cycled}
 use Rattle.cycle.proofs.belongs.Laws.{Own, own, is-own}
+use Rattle.cycle.proofs.cycling.Laws.{passed}
 
 -- ---- counts
 
@@ -61,10 +62,10 @@ blank (suc n) (suc i) = blank n i
 
 -- ---- the actions
 
-record Actions (n : ℕ) (x : Acted) : Type 0 where
-  stored : Below (x .stored) n ≡ true
-  latched : Below (x .latched) n ≡ true
-  activity : Below (x .activity) n ≡ true
+pub record Actions (n : ℕ) (x : Acted) : Type 0 where
+  pub stored : Below (x .stored) n ≡ true
+  pub latched : Below (x .latched) n ≡ true
+  pub activity : Below (x .activity) n ≡ true
 
 acted-below : (n : ℕ) (x : Asked) (stored latched : ℕ) → Below (x .set) n ≡ true → Below (x .latch) n ≡ true → Below (x .want) n ≡ true
     → Below stored n ≡ true → Below latched n ≡ true → Actions n (acted x stored latched)
@@ -93,7 +94,7 @@ module _ (n m : ℕ) (step action qualifier duration counts times : List ℕ) (s
   unfolding asked
   want-below = below-named (λ b. wants (requestOf step action qualifier duration counts times steps b)) (λ b. getD action b 0) m n h
 
-actions-below : (c : Chart) (counts times : List ℕ) (steps : Steps) (stored latched : ℕ) → Sound c → Below stored (c .actions) ≡ true → Below latched (c .actions) ≡ true
+pub actions-below : (c : Chart) (counts times : List ℕ) (steps : Steps) (stored latched : ℕ) → Sound c → Below stored (c .actions) ≡ true → Below latched (c .actions) ≡ true
     → Actions (c .actions) (actedOn c counts times steps stored latched)
 actions-below c counts times steps stored latched s e f =
     acted-below (c .actions) (asked (c .blocks) (c .blockstep) (c .blockaction) (c .qualifier) (c .duration) counts times steps) stored latched
@@ -183,14 +184,8 @@ start-belongs c clock lent h =
 pub cycle-belongs : (c : Chart) (r : Run) (clock inputs lent : ℕ) → cycleOf c r clock inputs lent .code ≡ 0 → belongs c (cycleOf c r clock inputs lent .run) ≡ true
 cycle-belongs c r clock inputs lent h =
     let e = accepted-cycle c r clock inputs lent h in
-    let x = else-zero (unless (leb 32 lent) 15) _ e in
-    let y = else-zero (chartCode c) _ (x .1) in
-    let z = else-zero (unless (belongs c r) 12) (unless (leb (elapsed (r .clock) clock) 60000) 11) (y .1) in
-    rw e (is-own c (cycled c r clock inputs .run) (cycled-own c r clock inputs (sound c (y .0)) (own c r (fits (belongs c r) (z .0)))))
-  where
-    fits : (b : Bool) → unless b 12 ≡ 0 → b ≡ true
-    fits true e = refl
-    fits false e = let q : _≡_ {A = ℕ} 12 0 = e in absurd (omega arith)
+    let p = passed c r clock lent e in
+    rw e (is-own c (cycled c r clock inputs .run) (cycled-own c r clock inputs (sound c (p .chart)) (own c r (p .run))))
 
 -- "A refused start returns an all-zero run, a refused cycle the run it was given, both with no transition taken"
 pub start-refused : (c : Chart) (clock lent : ℕ) → (startOf c clock lent .code ≡ 0 → ⊥) → startOf c clock lent ≡ refused (startCode c lent) noRun

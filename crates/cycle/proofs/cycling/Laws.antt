@@ -2,22 +2,26 @@
 use Prim.Native.Nat.{ℕ, _≤_, _<_}
 use mathlib.Core.List.{List, _++_}
 use mathlib.Core.Bool.{Bool, true, false, cond}
-use mathlib.Core.Path.{_≡_, _∙_}
+use mathlib.Core.Path.{_≡_, sym, ap, ap₂, _∙_}
 use lib.IntN.{ℤ}
-use lib.ListN.{drop, replicate}
+use lib.ListN.{length, drop, replicate}
 use native.Mathlib.Nat.{lt-of-lt-of-le}
+use native.Mathlib.Omega.{arith}
 use lib.Dec.{leb, eqb}
-use borrow.Author.Tests.{le-leb, lt-leb, eq-eqb, ne-eqb}
+use borrow.Author.Tests.{leb-true, le-leb, lt-leb, eq-eqb, ne-eqb}
 use Rattle.sets.specs.Loops.{orElse}
 use Rattle.sets.specs.Sets.{union}
+use Rattle.sets.proofs.Loops.{else-zero}
 use Rattle.reader.specs.Fields.{unless}
+use Rattle.reader.specs.Held.{chartCode}
 use Rattle.reader.specs.declared.chart.Chart.{Chart}
-use Rattle.reader.proofs.held.Sound.{Sound}
+use Rattle.reader.proofs.held.Sound.{Sound, fits}
 use Rattle.cycle.specs.Time.{elapsed, grownCounts, grownTimes}
 use Rattle.cycle.specs.Moving.{initialSet, settledCounters, settledTimers, signalsOf}
 use Rattle.cycle.specs.Outputs.{outputsOf}
 use Rattle.cycle.specs.Choosing.{stepsOf}
-use Rattle.cycle.specs.Cycling.{Settles, refused, actedOn, started, choiceOf, marksAt, cycled, outputsAfter}
+use Rattle.cycle.specs.Belongs.{belongs}
+use Rattle.cycle.specs.Cycling.{Settles, refused, cycleCode, actedOn, started, choiceOf, marksAt, cycled, outputsAfter, withOutputs, movedOn, cycleOn}
 use Rattle.cycle.specs.declared.choosing.Choice.{Choice}
 use Rattle.cycle.specs.declared.moving.Marks.{Marks}
 use Rattle.cycle.specs.declared.acting.Steps.{Steps}
@@ -31,10 +35,6 @@ use Rattle.cycle.specs.declared.cycling.Cycled.{Cycled}
 
 pub untouched : (c : Chart) (r : Cycled) (code : ℕ) (run : Run) (out : List ℤ) → r ≡ refused code run → (code ≡ 0 → ⊥) → out ≡ outputsAfter c r out
 untouched c r code run out e z = rw (e, ne-eqb code 0 z)
-
-pub written : (c : Chart) (r : Cycled) (out after : List ℤ) → r .code ≡ 0 → after ≡ outputsOf (c .actions) (c .output) (c .value) (r .run .activity) ++ drop 32 out
-    → after ≡ outputsAfter c r out
-written c r out after z e = e ∙ rw (eq-eqb _ 0 z)
 
 -- ---- the number of a call, by the tests in their order
 
@@ -68,6 +68,34 @@ refused-by code n x r run given e z g h = h ∙ rw (g, ← e, ne-eqb n 0 z)
 
 pub accepted-by : (code : ℕ) (x y r : Cycled) → 0 ≡ code → r ≡ x → r ≡ cond (eqb code 0) x y
 accepted-by code x y r e h = h ∙ rw (← e)
+
+-- what a call's answer and its outputs are, together and apart
+pub together : (c : Chart) (x r : Cycled) (out after : List ℤ) → r ≡ x → after ≡ outputsAfter c r out → _≡_ {A = Cycled × List ℤ} (r, after) (withOutputs c out x)
+together c x r out after e f = ap₂ {C = Cycled × List ℤ} (λ (o : Cycled) (l : List ℤ). (o, l)) e (f ∙ ap (λ (o : Cycled). outputsAfter c o out) e)
+
+pub apart : (c : Chart) (x r : Cycled) (out after : List ℤ) → _≡_ {A = Cycled × List ℤ} (r, after) (withOutputs c out x) → (r ≡ x) × (after ≡ outputsAfter c r out)
+apart c x r out after e =
+    let f : r ≡ x = ap (λ (p : Cycled × List ℤ). p .0) e in
+    (f, ap (λ (p : Cycled × List ℤ). p .1) e ∙ ap (λ (o : Cycled). outputsAfter c o out) (sym f))
+
+-- a cycle whose tests found nothing is paragraphs 1 to 6
+pub record Passed (c : Chart) (r : Run) (lent : ℕ) : Type 0 where
+  pub enough : 32 ≤ lent
+  pub chart : chartCode c ≡ 0
+  pub run : belongs c r ≡ true
+
+pub passed : (c : Chart) (r : Run) (clock lent : ℕ) → cycleCode c r clock lent ≡ 0 → Passed c r lent
+passed c r clock lent e =
+    let x = else-zero (unless (leb 32 lent) 15) _ e in
+    let y = else-zero (chartCode c) _ (x .1) in
+    record {
+      enough = leb-true 32 lent (fits (leb 32 lent) 15 (λ z. omega arith) (x .0));
+      chart = y .0;
+      run = fits (belongs c r) 12 (λ z. omega arith) (else-zero (unless (belongs c r) 12) _ (y .1) .0);
+    }
+
+pub moves-on : (c : Chart) (r : Run) (clock inputs : ℕ) (out : List ℤ) → cycleCode c r clock (length out) ≡ 0 → movedOn c r clock inputs out ≡ cycleOn c r clock inputs out
+moves-on c r clock inputs out e = rw e
 
 -- ---- the parts of an accepted start
 

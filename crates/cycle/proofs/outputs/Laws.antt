@@ -7,7 +7,7 @@ use mathlib.Core.Path.{_≡_, refl, sym, ap, _∙_}
 use native.Mathlib.Nat.{eq-or-lt-of-le}
 use native.Mathlib.Omega.{arith}
 use lib.IntN.{ℤ, pos}
-use lib.ListN.{length, getD, take, drop, set, length-set, length-append, length-drop, take-append-drop, List·getD-append}
+use lib.ListN.{length, getD, take, drop, set, length-set, take-append-drop, List·getD-append}
 use lib.Seq.{getD-set-same, getD-set-other, drop-set-lt, getD-take, length-take-le, drop-at}
 use lib.Dec.{eqb}
 use borrow.Author.Tests.{eqb-true, eqb-false, eq-eqb, ne-eqb}
@@ -60,28 +60,7 @@ front-end n f i l l₀ w h k =
     ∙ ap (λ (t : List ℤ). t ++ drop n l) (is-table f n (take n l) (pos 0) (length-take-le n l (omega arith)) (λ j q. getD-take n l j (pos 0) q ∙ w .passed j (omega arith)))
     ∙ ap (λ (t : List ℤ). table f n ++ t) (w .behind)
 
-pub front-of : (n : ℕ) (f : ℕ → ℤ) (l l₀ : List ℤ) → l ≡ table f n ++ drop n l₀ → n ≤ length l₀ → Front n f n l l₀
-front-of n f l l₀ e k = record {
-  long = ap length e ∙ length-append (table f n) (drop n l₀) ∙ size;
-  passed = λ j q. ap (λ (x : List ℤ). getD x j (pos 0)) e ∙ List·getD-append (table f n) (drop n l₀) (pos 0) j (in-front j q) ∙ getD-table f n j (pos 0) q;
-  behind = ap (drop n) e ∙ drop-at (table f n) (drop n l₀) n (length-table f n);
-}
-  where
-    size : length (table f n) + length (drop n l₀) ≡ length l₀
-    size = omega (arith, length-table f n, length-drop n l₀)
-
-    in-front : (j : ℕ) → j < n → j < length (table f n)
-    in-front j q = omega (arith, length-table f n)
-
 -- ---- the first active action from a on
-
-chosen : (p q : Bool) (x y : ℤ) → q ≡ true → cond (p && q) x y ≡ cond p x y
-chosen true q x y e = rw e
-chosen false q x y e = refl
-
-passed-over : (p q : Bool) (x y : ℤ) → q ≡ false → cond (p && q) x y ≡ y
-passed-over true q x y e = rw e
-passed-over false q x y e = refl
 
 module _ (n : ℕ) (output : List ℕ) (value : List ℤ) (activity : ℕ) where
   -- what output o has from the actions from a on
@@ -96,22 +75,23 @@ module _ (n : ℕ) (output : List ℕ) (value : List ℤ) (activity : ℕ) where
   unfolding from
   from-all d o = let e : n - 0 ≡ n = omega arith in rw e
 
-  from-next : (a : ℕ) (d : ℤ) (o : ℕ) → 0 < a → a ≤ n
-      → from (a - 1) d o ≡ cond (has activity (a - 1) && eqb (getD output (a - 1) 0) o) (getD value (a - 1) (pos 0)) (from a d o)
-  unfolding first from
-  from-next a d o h k =
-      let e : n - (a - 1) ≡ suc (n - a) = omega arith in
-      let q : suc (a - 1) ≡ a = omega arith in
-      rw (e, q)
+  -- action a - 1 comes before those from a on
+  module _ (a : ℕ) (d : ℤ) (h : 0 < a) (k : a ≤ n) where
+    from-next : (o : ℕ) → cond (has activity (a - 1) && eqb (getD output (a - 1) 0) o) (getD value (a - 1) (pos 0)) (from a d o) ≡ from (a - 1) d o
+    unfolding first from
+    from-next o =
+        let e : n - (a - 1) ≡ suc (n - a) = omega arith in
+        let q : suc (a - 1) ≡ a = omega arith in
+        rw (e, q)
 
-  pub from-written : (a t : ℕ) (d r v : ℤ) (b : Bool) → 0 < a → a ≤ n → t ≡ getD output (a - 1) 0 → b ≡ has activity (a - 1) → v ≡ from a d t
-      → r ≡ cond b (getD value (a - 1) (pos 0)) v → r ≡ from (a - 1) d t
-  from-written a t d r v b h k e f g q =
-      q ∙ rw (f, g) (sym (from-next a d t h k ∙ chosen (has activity (a - 1)) (eqb (getD output (a - 1) 0) t) (getD value (a - 1) (pos 0)) (from a d t) (eq-eqb _ t (sym e))))
+    pub from-idle : (o : ℕ) → has activity (a - 1) ≡ false → from a d o ≡ from (a - 1) d o
+    from-idle o f = rw f at (from-next o)
 
-  pub from-other : (a t : ℕ) (d : ℤ) (o : ℕ) → 0 < a → a ≤ n → t ≡ getD output (a - 1) 0 → (o ≡ t → ⊥) → from a d o ≡ from (a - 1) d o
-  from-other a t d o h k e z =
-      sym (from-next a d o h k ∙ passed-over (has activity (a - 1)) (eqb (getD output (a - 1) 0) o) (getD value (a - 1) (pos 0)) (from a d o) (ne-eqb _ o (λ q. z (sym q ∙ sym e))))
+    pub from-written : (t : ℕ) → has activity (a - 1) ≡ true → t ≡ getD output (a - 1) 0 → getD value (a - 1) (pos 0) ≡ from (a - 1) d t
+    from-written t f e = rw (f, eq-eqb _ t (sym e)) at (from-next t)
+
+    pub from-other : (t o : ℕ) → has activity (a - 1) ≡ true → t ≡ getD output (a - 1) 0 → (o ≡ t → ⊥) → from a d o ≡ from (a - 1) d o
+    from-other t o f e z = rw (f, ne-eqb _ o (λ q. z (sym q ∙ sym e))) at (from-next o)
 
 pub front-as : (n : ℕ) (f g : ℕ → ℤ) (i : ℕ) (l l₀ : List ℤ) → Front n f i l l₀ → ((j : ℕ) → j < i → f j ≡ g j) → Front n g i l l₀
 front-as n f g i l l₀ w same = record { long = w .long; passed = λ j q. w .passed j q ∙ same j q; behind = w .behind }

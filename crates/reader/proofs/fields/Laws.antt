@@ -1,13 +1,15 @@
--- The qualifiers' timing by ranges.
-use Prim.Native.Nat.{ℕ, _≤_, _<_}
+-- The qualifiers' timing by ranges, and a transition's sets by pairs.
+use Prim.Native.Nat.{ℕ, _+_, _≤_, _<_}
 use mathlib.Core.Bool.{Bool, true, false, _&&_, not, cond}
-use mathlib.Core.Path.{_≡_, refl, _∙_}
+use mathlib.Core.Path.{_≡_, refl, sym, ap, ap₂, _∙_}
 use lib.Dec.{leb, ltb, eqb}
 use native.Mathlib.Omega.{arith}
-use borrow.Author.Tests.{eqb-true, ne-eqb, lt-leb, le-leb, lt-ltb, le-ltb}
+use borrow.Author.Tests.{eqb-true, ne-eqb, lt-leb, le-leb, leb-true, leb-false, lt-ltb, le-ltb}
 use Rattle.sets.specs.Loops.{all}
-use Rattle.sets.proofs.Loops.{all-true}
-use Rattle.reader.specs.Fields.{timed, timing}
+use Rattle.sets.specs.Sets.{Apart, Below, union, beyond}
+use Rattle.sets.proofs.Loops.{all-true, and-assoc}
+use Rattle.sets.proofs.Members.{apart-beyond}
+use Rattle.reader.specs.Fields.{timed, timing, longest, signalsExist, transitionFits}
 
 ranged : ℕ → ℕ
 ranged q = cond (leb 3 q && ltb q 9 && not (eqb q 5)) 1 0
@@ -37,3 +39,24 @@ timing-timed q = go (timed q) (leb q 10)
     go true k = refl
     go false true = refl
     go false false = refl
+
+-- a qualifier is one exactly if it is 10 at most
+pub timing-fits : (q : ℕ) → leb q 10 ≡ leb (timing q) 1
+timing-fits q = go (leb q 10) refl
+  where
+    known : (t : Bool) → leb (cond t 1 0) 1 ≡ true
+    known true = refl
+    known false = refl
+
+    go : (b : Bool) → leb q 10 ≡ b → b ≡ leb (timing q) 1
+    go true e = sym (ap (λ (x : ℕ). leb x 1) (timing-known q (omega (arith, leb-true q 10 e))) ∙ known (leb 3 q && ltb q 9 && not (eqb q 5)))
+    go false e = ap (λ (x : ℕ). leb x 1) (timing-unknown q (omega (arith, leb-false q 10 e)))
+
+-- both sets of steps by one test, and both of signals
+pub transition-pairs : (steps actions sources targets on off wait : ℕ)
+    → Apart (union sources targets) (beyond steps) && Apart (union on off) (beyond (32 + actions)) && leb wait longest
+    ≡ transitionFits steps actions sources targets on off wait
+transition-pairs steps actions sources targets on off wait =
+    ap (λ (x : Bool). x && leb wait longest)
+    (ap₂ _&&_ (apart-beyond sources targets steps) (apart-beyond on off (32 + actions))
+    ∙ and-assoc (Below sources steps && Below targets steps) (signalsExist on actions) (signalsExist off actions))

@@ -7,16 +7,41 @@ use native.Mathlib.Nat.{le-antisymm}
 use native.Mathlib.Omega.{arith}
 use lib.ListN.{length, getD, set, replicate, length-set, length-replicate, getD-replicate}
 use lib.Seq.{getD-set-same, getD-set-other}
-use lib.Dec.{leb, eqb}
-use borrow.Author.Tests.{leb-true, eqb-true, eqb-false}
+use lib.Dec.{leb, ltb, eqb}
+use borrow.Author.Tests.{leb-true, lt-ltb, ltb-true, eqb-true, eqb-false}
 use Rattle.sets.specs.Loops.{all, some, firstCode}
-use Rattle.sets.proofs.Loops.{first-by-test, and-true, some-start, some-turn, or-false, and-yes, and-no}
+use Rattle.sets.proofs.Loops.{first-by-test, and-true, some-start, some-turn, all-both, or-false, or-true, and-yes, and-no}
 use Rattle.reader.specs.Fields.{timed, unless}
-use Rattle.reader.specs.Held.{limitsFit, timedFor, timedAgain}
+use Rattle.reader.specs.Held.{limitsFit, blockNamesAt, durationFitsAt, untimedFitsAt, blockFitsAt, blocksCode, caseFitsAt, timedFor, timedAgain}
+use Rattle.reader.proofs.fields.Laws.{timing-fits, timing-timed}
 
 pub column-end : (p : ℕ → Bool) (n i : ℕ) {fit : Bool} {r : ℕ} → r ≡ unless fit 5 → fit ≡ all p i → n ≤ i → i ≤ n → r ≡ firstCode (λ k. unless (p k) 5) n
 column-end p n i e f a b =
     e ∙ ap (λ (x : Bool). unless x 5) (f ∙ ap (all p) (le-antisymm b a)) ∙ sym (first-by-test 5 p n (λ z. omega arith))
+
+-- ---- the tests of bytes as bytes
+
+pub names-fit : (s a : ℕ) (bs ba q : List ℕ) (i : ℕ) → ltb (getD bs i 0) s && ltb (getD ba i 0) a && leb (getD q i 0) 10 ≡ blockNamesAt s a bs ba q i
+names-fit s a bs ba q i = ap (λ (x : Bool). ltb (getD bs i 0) s && ltb (getD ba i 0) a && x) (timing-fits (getD q i 0))
+
+pub untimed-fits : (q d : List ℕ) (i : ℕ) {t : Bool} → t ≡ timed (getD q i 0) → t || eqb (getD d i 0) 0 ≡ untimedFitsAt q d i
+untimed-fits q d i e = ap (λ (x : Bool). x || eqb (getD d i 0) 0) (e ∙ sym (timing-timed (getD q i 0)))
+
+-- every signal that exists is below 64
+pub case-fits : (s a : ℕ) (cs sg ex : List ℕ) (i : ℕ) → a ≤ 32 → ltb (getD cs i 0) s && ltb (getD sg i 0) (32 + a) && leb (getD ex i 0) 1 ≡ caseFitsAt s a cs sg ex i
+case-fits s a cs sg ex i h = ap (λ (x : Bool). x && leb (getD ex i 0) 1) (go (ltb (getD cs i 0) s) (getD sg i 0) _ refl)
+  where
+    go : (x : Bool) (k : ℕ) (b : Bool) → ltb k (32 + a) ≡ b → x && b ≡ x && ltb k 64 && b
+    go x k true e = rw (lt-ltb k 64 (omega (arith, ltb-true k (32 + a) e))) (and-yes (x && true))
+    go x k false e = and-no x ∙ sym (and-no (x && ltb k 64))
+
+-- the three tests of all the blocks are one test of each
+pub columns-code : (n s a : ℕ) (bs ba q d : List ℕ)
+    → unless (all (blockNamesAt s a bs ba q) n && all (durationFitsAt d) n && all (untimedFitsAt q d) n) 5 ≡ blocksCode n s a bs ba q d
+unfolding blocksCode
+columns-code n s a bs ba q d =
+    ap (λ (x : Bool). unless x 5) (ap (λ (x : Bool). x && all (untimedFitsAt q d) n) (all-both (blockNamesAt s a bs ba q) (durationFitsAt d) n) ∙ all-both _ (untimedFitsAt q d) n)
+    ∙ sym (first-by-test 5 (blockFitsAt s a bs ba q d) n (λ z. omega arith))
 
 -- ---- the counts within their limits
 
@@ -51,19 +76,26 @@ none-seen acts quals = record {
 }
 
 module _ (acts quals : List ℕ) (seen : List Bool) (twice : Bool) (i : ℕ) (o : Seen acts quals seen twice i) where
-  mark : (a b : ℕ) (t e : Bool) → a < 256 → b < 256 → eqb a b ≡ e → getD (set seen a (getD seen a false || t)) b false ≡ getD seen b false || (t && e)
-  mark a b t true ha hb e =
+  mark : (a b : ℕ) (e : Bool) → a < 256 → b < 256 → eqb a b ≡ e → getD (set seen a true) b false ≡ getD seen b false || e
+  mark a b true ha hb e =
       let l = o .long in
       let q = eqb-true a b e in
-      rw (q) (getD-set-same seen b (getD seen b false || t) false (omega arith) ∙ ap (λ (x : Bool). getD seen b false || x) (and-yes t))
-  mark a b t false ha hb e =
-      getD-set-other seen a b (getD seen a false || t) false (λ q. eqb-false a b e (sym q)) ∙ sym (ap (λ (x : Bool). getD seen b false || x) (and-no t) ∙ or-false (getD seen b false))
+      rw (q) (getD-set-same seen b true false (omega arith) ∙ sym (or-true (getD seen b false)))
+  mark a b false ha hb e = getD-set-other seen a b true false (λ q. eqb-false a b e (sym q)) ∙ sym (or-false (getD seen b false))
 
-  pub one-seen : (a : ℕ) (t : Bool) → t ≡ timed (getD quals i 0) → a ≡ getD acts i 0 → a < 256
-      → Seen acts quals (set seen a (getD seen a false || t)) (twice || (t && getD seen a false)) (i + 1)
+  pub one-seen : (a : ℕ) → true ≡ timed (getD quals i 0) → a ≡ getD acts i 0 → a < 256 → Seen acts quals (set seen a true) (twice || getD seen a false) (i + 1)
   unfolding timedFor
-  one-seen a t e q h = record {
-    long = length-set seen a (getD seen a false || t) ∙ o .long;
-    marks = λ b hb. mark a b t _ h hb refl ∙ some-turn _ i (o .marks b hb) (ap₂ (λ (x : Bool) (y : ℕ). x && eqb y b) e q);
+  one-seen a e q h = record {
+    long = length-set seen a true ∙ o .long;
+    marks = λ b hb. mark a b _ h hb refl ∙ some-turn _ i (o .marks b hb) (ap₂ (λ (x : Bool) (y : ℕ). x && eqb y b) e q);
     again = some-turn _ i (o .again) (ap₂ _&&_ e (o .marks a h ∙ ap (λ (x : ℕ). timedFor acts quals x i) q));
+  }
+
+  -- a block that is not timed changes nothing
+  pub not-seen : false ≡ timed (getD quals i 0) → Seen acts quals seen twice (i + 1)
+  unfolding timedFor
+  not-seen e = record {
+    long = o .long;
+    marks = λ b hb. sym (or-false (getD seen b false)) ∙ some-turn _ i (o .marks b hb) (ap (λ (x : Bool). x && eqb (getD acts i 0) b) e);
+    again = sym (or-false twice) ∙ some-turn _ i (o .again) (ap (λ (x : Bool). x && timedFor acts quals (getD acts i 0) i) e);
   }

@@ -5,12 +5,13 @@ use mathlib.Core.Bool.{Bool, true, false, _||_}
 use mathlib.Core.Path.{_≡_, refl}
 use lib.ListN.{getD}
 use lib.Dec.{leb, ltb, eqb}
+use native.Mathlib.Nat.{lt-of-lt-of-le}
 use native.Mathlib.Omega.{arith}
 use borrow.Author.Tests.{leb-true, ltb-true}
 use Rattle.sets.specs.Sets.{Below}
 use Rattle.sets.proofs.Loops.{and-true, else-zero, first-zero}
-use Rattle.reader.specs.Fields.{unless, signalsExist, transitionFits, transitionCode, blockFits, actionFits, timing, longest}
-use Rattle.reader.specs.Held.{limitsFit, stepsCode, actionsCode, transitionsCode, transitionCodeAt, blocksCode, blockFitsAt, heldCode, chartCode}
+use Rattle.reader.specs.Fields.{unless, signalExists, signalsExist, transitionFits, transitionCode, blockFits, caseFits, actionFits, timing, longest}
+use Rattle.reader.specs.Held.{limitsFit, stepsCode, actionsCode, transitionsCode, transitionCodeAt, blocksCode, blockFitsAt, casesCode, caseFitsAt, heldCode, chartCode}
 use Rattle.reader.specs.declared.chart.Chart.{Chart}
 use Rattle.reader.proofs.held.Laws.{Limits, limits}
 
@@ -21,8 +22,11 @@ pub record Sound (c : Chart) : Type 0 where
   pub targets : (t : ℕ) → t < c .transitions → Below (getD (c .targets) t 0) (c .steps) ≡ true
   pub blockstep : (b : ℕ) → b < c .blocks → getD (c .blockstep) b 0 < c .steps
   pub blockaction : (b : ℕ) → b < c .blocks → getD (c .blockaction) b 0 < c .actions
+  pub casestep : (k : ℕ) → k < c .cases → getD (c .casestep) k 0 < 64
+  pub signal : (k : ℕ) → k < c .cases → getD (c .signal) k 0 < 64
 
-fits : (t : Bool) (n : ℕ) → (n ≡ 0 → ⊥) → unless t n ≡ 0 → t ≡ true
+-- what "n unless t" tells
+pub fits : (t : Bool) (n : ℕ) → (n ≡ 0 → ⊥) → unless t n ≡ 0 → t ≡ true
 fits true n z e = refl
 fits false n z e = absurd (z e)
 
@@ -41,6 +45,13 @@ block-fits steps actions s a q d e =
     let v = and-true (ltb s steps) (ltb a actions) (z .0) in
     (ltb-true _ _ (v .0), ltb-true _ _ (v .1))
 
+case-fits : (steps actions step signal expected : ℕ) → caseFits steps actions step signal expected ≡ true → (step < steps) × (signal < 64)
+case-fits steps actions step signal expected e =
+    let x = and-true _ (leb expected 1) e in
+    let y = and-true _ (signalExists signal actions) (x .0) in
+    let z = and-true (ltb step steps) (ltb signal 64) (y .0) in
+    (ltb-true _ _ (z .0), ltb-true _ _ (z .1))
+
 transition-zero : (s a f g on off w : ℕ) → transitionCode s a f g on off w ≡ 0 → (Below f s ≡ true) × (Below g s ≡ true)
 unfolding transitionCode
 transition-zero s a f g on off w e =
@@ -53,6 +64,7 @@ record Zero (c : Chart) : Type 0 where
   actions : actionsCode (c .actions) (c .output) ≡ 0
   transitions : transitionsCode (c .transitions) (c .steps) (c .actions) (c .sources) (c .targets) (c .on) (c .off) (c .wait) ≡ 0
   blocks : blocksCode (c .blocks) (c .steps) (c .actions) (c .blockstep) (c .blockaction) (c .qualifier) (c .duration) ≡ 0
+  cases : casesCode (c .cases) (c .steps) (c .actions) (c .casestep) (c .signal) (c .expected) ≡ 0
 
 is-zero : (c : Chart) → chartCode c ≡ 0 → Zero c
 unfolding heldCode
@@ -62,7 +74,8 @@ is-zero c e =
     let a = else-zero (actionsCode (c .actions) (c .output)) _ (s .1) in
     let t = else-zero (transitionsCode (c .transitions) (c .steps) (c .actions) (c .sources) (c .targets) (c .on) (c .off) (c .wait)) _ (a .1) in
     let b = else-zero (blocksCode (c .blocks) (c .steps) (c .actions) (c .blockstep) (c .blockaction) (c .qualifier) (c .duration)) _ (t .1) in
-    record { limits = fits _ 4 (λ z. omega arith) (l .0); actions = a .0; transitions = t .0; blocks = b .0 }
+    let k = else-zero (casesCode (c .cases) (c .steps) (c .actions) (c .casestep) (c .signal) (c .expected)) _ (b .1) in
+    record { limits = fits _ 4 (λ z. omega arith) (l .0); actions = a .0; transitions = t .0; blocks = b .0; cases = k .0 }
 
 outputs-zero : (n : ℕ) (output : List ℕ) → actionsCode n output ≡ 0 → (a : ℕ) → a < n → getD output a 0 < 32
 unfolding actionsCode
@@ -78,14 +91,22 @@ unfolding blocksCode
 blocks-zero n s a bs ba q d e b h =
     block-fits s a _ _ (getD q b 0) (getD d b 0) (fits (blockFitsAt s a bs ba q d b) 5 (λ z. omega arith) (first-zero (λ i. unless (blockFitsAt s a bs ba q d i) 5) n e b h))
 
+cases-zero : (n s a : ℕ) (cs sg ex : List ℕ) → casesCode n s a cs sg ex ≡ 0 → (k : ℕ) → k < n → (getD cs k 0 < s) × (getD sg k 0 < 64)
+unfolding casesCode
+cases-zero n s a cs sg ex e k h =
+    case-fits s a _ _ (getD ex k 0) (fits (caseFitsAt s a cs sg ex k) 5 (λ z. omega arith) (first-zero (λ i. unless (caseFitsAt s a cs sg ex i) 5) n e k h))
+
 pub sound : (c : Chart) → chartCode c ≡ 0 → Sound c
 sound c e =
     let z = is-zero c e in
+    let l = limits _ _ _ _ _ (z .limits) in
     record {
-      limits = limits _ _ _ _ _ (z .limits);
+      limits = l;
       output = outputs-zero _ _ (z .actions);
       sources = λ t h. transitions-zero _ _ _ _ _ _ _ _ (z .transitions) t h .0;
       targets = λ t h. transitions-zero _ _ _ _ _ _ _ _ (z .transitions) t h .1;
       blockstep = λ b h. blocks-zero _ _ _ _ _ _ _ (z .blocks) b h .0;
       blockaction = λ b h. blocks-zero _ _ _ _ _ _ _ (z .blocks) b h .1;
+      casestep = λ k h. lt-of-lt-of-le (cases-zero _ _ _ _ _ _ (z .cases) k h .0) (l .steps);
+      signal = λ k h. cases-zero _ _ _ _ _ _ (z .cases) k h .1;
     }

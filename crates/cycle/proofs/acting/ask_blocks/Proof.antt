@@ -1,6 +1,8 @@
 -- What the blocks passed ask.
-use Prim.Native.Nat.{_≤_, _-_}
+use Prim.Native.Nat.{_≤_, _<_, _-_}
 use mathlib.Core.Path.{_≡_}
+use denote.Ref.{now}
+use lib.ListN.{getD}
 use native.Mathlib.Omega.{arith}
 use borrow.Author.Needs.{needs}
 use native.Mathlib.Nat.{le-antisymm}
@@ -14,6 +16,10 @@ Inv-loop n blockstep blockaction qualifier duration counts times steps asked₀ 
 
 abbrev μ-loop : tie.MeasureT-loop
 μ-loop n blockstep blockaction qualifier duration counts times steps asked₀ i₀ asked i = n - i
+
+-- the numbers of a block in hand
+small : (c : tie.In-loop Inv-loop μ-loop) → (getD (now (c .before .before .args .blockstep)) (c .before .loop .i) 0 < 64) × (getD (now (c .before .before .args .blockaction)) (c .before .loop .i) 0 < 32)
+small c = c .before .before .pre .1 (c .before .loop .i) (c .loop-test .taken)
 
 loop-holds : tie.Need-loop-holds Inv-loop μ-loop
 loop-holds c = (none-asked _ _ _ _ _ _ _, omega arith)
@@ -30,33 +36,22 @@ element-copy-out-index-of-2 c = omega arith
 index-of-requires-2 : tie.Need-index-of-requires-2 Inv-loop μ-loop
 index-of-requires-2 c κs = search needs
 
-element-copy-out-ask : tie.Need-element-copy-out-ask Inv-loop μ-loop
-element-copy-out-ask c = omega arith
+element-copy-out-asks : tie.Need-element-copy-out-asks Inv-loop μ-loop
+element-copy-out-asks c = omega arith
 
-mul-ask : tie.Need-mul-ask Inv-loop μ-loop
-mul-ask c = omega arith
+mul-asks : tie.Need-mul-asks Inv-loop μ-loop
+mul-asks c = omega arith
 
-element-copy-out-ask-2 : tie.Need-element-copy-out-ask-2 Inv-loop μ-loop
-element-copy-out-ask-2 c = omega arith
+element-copy-out-asks-2 : tie.Need-element-copy-out-asks-2 Inv-loop μ-loop
+element-copy-out-asks-2 c = omega arith
 
-mul-ask-2 : tie.Need-mul-ask-2 Inv-loop μ-loop
-mul-ask-2 c = omega arith
+asks-requires : tie.Need-asks-requires Inv-loop μ-loop
+asks-requires c κs =
+    let turn = small (c .before .before .before .before .before .before) in
+    (omega (arith, c .before .before .before .before .index-of .ensures .0, turn .0), omega (arith, c .before .before .index-of2 .ensures .0, turn .1))
 
-element-copy-out-ask-3 : tie.Need-element-copy-out-ask-3 Inv-loop μ-loop
-element-copy-out-ask-3 c =
-    let turn = c .before .before .before .before .before .before in
-    omega (arith, c .before .before .before .before .index-of .ensures .0, turn .before .before .pre .1 (turn .before .loop .i) (turn .loop-test .taken) .0)
-
-mul-ask-3 : tie.Need-mul-ask-3 Inv-loop μ-loop
-mul-ask-3 c = omega arith
-
-element-copy-out-ask-4 : tie.Need-element-copy-out-ask-4 Inv-loop μ-loop
-element-copy-out-ask-4 c =
-    let turn = c .before .before .before .before .before .before .before in
-    omega (arith, c .before .before .before .index-of2 .ensures .0, turn .before .before .pre .1 (turn .before .loop .i) (turn .loop-test .taken) .1)
-
-ask-requires : tie.Need-ask-requires Inv-loop μ-loop
-ask-requires c κs = search needs
+put-requires : tie.Need-put-requires Inv-loop μ-loop
+put-requires c κs = omega (arith, c .before .before .before .index-of2 .ensures .0, small (c .before .before .before .before .before .before .before) .1)
 
 add-i : tie.Need-add-i Inv-loop μ-loop
 add-i c = omega arith
@@ -66,9 +61,9 @@ loop-less c = omega arith
 
 loop-again : tie.Need-loop-again Inv-loop μ-loop
 loop-again c =
-    let action = c .before .before .before .before .before in
+    let action = c .before .before .before .before in
     let step = action .before .before in
-    (one-asked _ _ _ _ _ _ _ _ _ _ _ _ (step .before .before .before .loop .inv .0) (step .index-of .ensures .0) (action .index-of2 .ensures .0) (c .ask .ensures), omega arith)
+    (one-asked _ _ _ _ _ _ _ _ _ _ _ _ _ (step .before .before .before .loop .inv .0) (step .index-of .ensures .0) (action .index-of2 .ensures .0) (c .before .asks .ensures) (c .put .ensures), omega arith)
 
 returns : tie.Need-returns Inv-loop μ-loop
 returns c = rw (le-antisymm (c .loop-test .left) (c .before .loop .inv .1)) (c .before .loop .inv .0)
@@ -84,14 +79,11 @@ ask-blocks-spec =
     index-of-requires
     element-copy-out-index-of-2
     index-of-requires-2
-    element-copy-out-ask
-    mul-ask
-    element-copy-out-ask-2
-    mul-ask-2
-    element-copy-out-ask-3
-    mul-ask-3
-    element-copy-out-ask-4
-    ask-requires
+    element-copy-out-asks
+    mul-asks
+    element-copy-out-asks-2
+    asks-requires
+    put-requires
     add-i
     loop-less
     loop-again

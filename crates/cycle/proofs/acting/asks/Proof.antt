@@ -1,36 +1,151 @@
--- The ranges say which, by the timing of the qualifier.
-use mathlib.Core.Path.{_≡_}
-use mathlib.Core.Logic.{⊎-elim}
-use native.Mathlib.Omega.{arith}
-use Rattle.reader.specs.Fields.{timing}
-use Rattle.reader.proofs.fields.Laws.{timing-timed-range, timing-low, timing-high, timing-unknown}
+-- The qualifier picks the case.
+use mathlib.Core.Path.{ap}
+use borrow.Author.Tests.{ne-eqb}
+use Rattle.sets.proofs.Below.{has-union}
+use Rattle.cycle.specs.declared.acting.Request.the-variants.{Want}
 use borrow.Author.Needs.{needs}
 use Rattle.cycle.proofs.acting.asks.Statement.{statement}
 use Rattle.cycle.proofs.acting.asks.Tie as tie
 
-timed-here : (c : tie.Then2) → timing (c .before .before .before .args .qualifier) ≡ 1
-timed-here c = timing-timed-range _ (c .before .if1 .left) (c .if2 .taken) (c .before .before .match .rest .1)
+is-in-requires : tie.Need-is-in-requires
+is-in-requires c κs = search needs
 
-untimed-here : (c : tie.At-match-came) → timing (c .before .args .qualifier) ≡ 0
-untimed-here c =
-    ⊎-elim (λ w. rw (w .keys1)) (λ v. ⊎-elim (λ w. timing-low _ (w .1 .taken)) (λ w. timing-high _ (w .2 .left) (w .3 .taken)) v) (c .match .came)
+is-in-requires-2 : tie.Need-is-in-requires-2
+is-in-requires-2 c κs = search needs
 
-timed-request-requires : tie.Need-timed-request-requires
-timed-request-requires c κs = search needs
+is-in-requires-3 : tie.Need-is-in-requires-3
+is-in-requires-3 c κs = search needs
 
-untimed-request-requires : tie.Need-untimed-request-requires
-untimed-request-requires c κs = search needs
+count-of-requires : tie.Need-count-of-requires
+count-of-requires c κs = search needs
+
+is-in-requires-4 : tie.Need-is-in-requires-4
+is-in-requires-4 c κs = search needs
+
+count-of-requires-2 : tie.Need-count-of-requires-2
+count-of-requires-2 c κs = search needs
+
+is-in-requires-5 : tie.Need-is-in-requires-5
+is-in-requires-5 c κs = search needs
+
+joined-requires : tie.Need-joined-requires
+joined-requires c κs = search needs
+
+is-in-requires-6 : tie.Need-is-in-requires-6
+is-in-requires-6 c κs = search needs
+
+is-in-requires-7 : tie.Need-is-in-requires-7
+is-in-requires-7 c κs = search needs
+
+mul-t24 : tie.Need-mul-t24
+mul-t24 c = search needs
+
+element-copy-out-t27 : tie.Need-element-copy-out-t27
+element-copy-out-t27 c = search needs
+
+count-of-requires-3 : tie.Need-count-of-requires-3
+count-of-requires-3 c κs = search needs
+
+is-in-requires-8 : tie.Need-is-in-requires-8
+is-in-requires-8 c κs = search needs
+
+is-in-requires-9 : tie.Need-is-in-requires-9
+is-in-requires-9 c κs = search needs
+
+mul-t33 : tie.Need-mul-t33
+mul-t33 c = search needs
+
+element-copy-out-t36 : tie.Need-element-copy-out-t36
+element-copy-out-t36 c = search needs
+
+is-in-requires-10 : tie.Need-is-in-requires-10
+is-in-requires-10 c κs = search needs
+
+is-in-requires-11 : tie.Need-is-in-requires-11
+is-in-requires-11 c κs = search needs
 
 returns : tie.Need-returns
-returns c = rw (timed-here (c .before)) (c .timed-request .ensures)
+returns c = rw (c .before .match .keys1, c .is-in .ensures)
 
 returns-2 : tie.Need-returns-2
-returns-2 c = rw (← timing-unknown (c .before .before .before .before .args .qualifier) (omega arith))
+returns-2 c = rw (c .before .match .keys2, c .is-in2 .ensures)
 
 returns-3 : tie.Need-returns-3
-returns-3 c = rw (untimed-here (c .before)) (c .untimed-request .ensures)
+returns-3 c = rw (c .before .match .keys3, c .is-in3 .ensures)
+
+returns-4 : tie.Need-returns-4
+returns-4 c = rw (c .before .before .match .keys4, c .is-in4 .ensures, c .before .count-of .ensures)
+
+returns-5 : tie.Need-returns-5
+returns-5 c = rw (c .before .before .match .keys5, c .is-in5 .ensures, c .before .count-of2 .ensures)
+
+returns-6 : tie.Need-returns-6
+returns-6 c = rw (c .before .before .match .keys6, c .is-in6 .ensures, c .before .joined .ensures) (ap Want (has-union _ _ _ (search needs)))
+
+returns-7 : tie.Need-returns-7
+returns-7 c = rw (c .before .before .match .keys7, c .before .is-in7 .ensures)
+
+returns-8 : tie.Need-returns-8
+returns-8 c = rw (c .before .before .match .keys8, c .is-in8 .ensures, c .before .count-of3 .ensures)
+
+returns-9 : tie.Need-returns-9
+returns-9 c = rw (c .before .before .match .keys9, c .before .is-in9 .ensures)
+
+returns-10 : tie.Need-returns-10
+returns-10 c = rw (c .before .match .keys10, c .is-in10 .ensures)
+
+returns-11 : tie.Need-returns-11
+returns-11 c = rw (c .before .match .keys11, c .is-in11 .ensures)
+
+returns-12 : tie.Need-returns-12
+returns-12 c =
+    let r = c .match .rest in
+    rw (
+      ne-eqb _ _ (r .0 .0 .0 .0 .0 .0 .0 .0 .0 .0 .1),
+      ne-eqb _ _ (r .0 .0 .0 .0 .0 .0 .0 .0 .0 .1),
+      ne-eqb _ _ (r .0 .0 .0 .0 .0 .0 .0 .0 .1),
+      ne-eqb _ _ (r .0 .0 .0 .0 .0 .0 .0 .1),
+      ne-eqb _ _ (r .0 .0 .0 .0 .0 .0 .1),
+      ne-eqb _ _ (r .0 .0 .0 .0 .0 .1),
+      ne-eqb _ _ (r .0 .0 .0 .0 .1),
+      ne-eqb _ _ (r .0 .0 .0 .1),
+      ne-eqb _ _ (r .0 .0 .1),
+      ne-eqb _ _ (r .0 .1),
+      ne-eqb _ _ (r .1),
+    )
 
 pub asks-spec : {M : Type 1} → statement M
 asks-spec =
     tie.close
-    (tie.spec timed-request-requires untimed-request-requires returns returns-2 returns-3)
+    (tie.spec
+    is-in-requires
+    is-in-requires-2
+    is-in-requires-3
+    count-of-requires
+    is-in-requires-4
+    count-of-requires-2
+    is-in-requires-5
+    joined-requires
+    is-in-requires-6
+    is-in-requires-7
+    mul-t24
+    element-copy-out-t27
+    count-of-requires-3
+    is-in-requires-8
+    is-in-requires-9
+    mul-t33
+    element-copy-out-t36
+    is-in-requires-10
+    is-in-requires-11
+    returns
+    returns-2
+    returns-3
+    returns-4
+    returns-5
+    returns-6
+    returns-7
+    returns-8
+    returns-9
+    returns-10
+    returns-11
+    returns-12)

@@ -1,6 +1,7 @@
 -- Every step passed is ripe.
 use borrow.Author.Tests.{not-true, not-false}
 use Prim.Native.Nat.{_≤_, _-_}
+use denote.Ref.{now}
 use mathlib.Core.Path.{_≡_, sym}
 use native.Mathlib.Omega.{arith}
 use borrow.Author.Needs.{needs}
@@ -9,6 +10,7 @@ use lib.ListN.{getD}
 use Rattle.sets.specs.Loops.{all}
 use Rattle.sets.proofs.Loops.{all-start, all-more, all-fails, all-end}
 use Rattle.cycle.specs.Choosing.{ripeAt}
+use Rattle.cycle.proofs.choosing.Laws.{at-once}
 use Rattle.cycle.proofs.choosing.is_ripe.Statement.{statement}
 use Rattle.cycle.proofs.choosing.is_ripe.Tie as tie
 
@@ -17,6 +19,9 @@ Inv-loop wait sources counts k₀ k = (all (λ j. ripeAt wait sources j (getD co
 
 abbrev μ-loop : tie.MeasureT-loop
 μ-loop wait sources counts k₀ k = 64 - k
+
+returns : tie.Need-returns Inv-loop μ-loop
+returns c = let a = c .before .args in at-once (a .wait) (a .sources) (now (a .counts)) (c .if1 .taken)
 
 loop-holds : tie.Need-loop-holds Inv-loop μ-loop
 loop-holds c = (sym (all-start _), omega arith)
@@ -30,8 +35,8 @@ element-copy-out-ripe-at c = omega arith
 ripe-at-requires : tie.Need-ripe-at-requires Inv-loop μ-loop
 ripe-at-requires c κs = search needs
 
-returns : tie.Need-returns Inv-loop μ-loop
-returns c = all-fails _ 64 (c .before .before .before .before .loop .k) (omega arith) (c .before .ripe-at .ensures) (not-true _ (c .if1 .taken))
+returns-2 : tie.Need-returns-2 Inv-loop μ-loop
+returns-2 c = all-fails _ 64 (c .before .before .before .before .loop .k) (omega arith) (c .before .ripe-at .ensures) (not-true _ (c .if2 .taken))
 
 add-k : tie.Need-add-k Inv-loop μ-loop
 add-k c = omega arith
@@ -40,10 +45,10 @@ loop-less : tie.Need-loop-less Inv-loop μ-loop
 loop-less c = omega arith
 
 loop-again : tie.Need-loop-again Inv-loop μ-loop
-loop-again c = (all-more _ _ (c .before .before .before .before .loop .inv .0) (c .before .ripe-at .ensures) (not-false _ (c .if1 .left)), omega arith)
+loop-again c = (all-more _ _ (c .before .before .before .before .loop .inv .0) (c .before .ripe-at .ensures) (not-false _ (c .if2 .left)), omega arith)
 
-returns-2 : tie.Need-returns-2 Inv-loop μ-loop
-returns-2 c = all-end _ 64 _ (c .before .loop .inv .0) (c .loop-test .left) (c .before .loop .inv .1)
+returns-3 : tie.Need-returns-3 Inv-loop μ-loop
+returns-3 c = all-end _ 64 _ (c .before .loop .inv .0) (c .loop-test .left) (c .before .loop .inv .1)
 
 pub is-ripe-spec : {M : Type 1} → statement M
 is-ripe-spec =
@@ -51,12 +56,13 @@ is-ripe-spec =
     (tie.spec
     Inv-loop
     μ-loop
+    returns
     loop-holds
     mul-ripe-at
     element-copy-out-ripe-at
     ripe-at-requires
-    returns
+    returns-2
     add-k
     loop-less
     loop-again
-    returns-2)
+    returns-3)

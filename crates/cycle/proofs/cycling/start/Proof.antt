@@ -8,19 +8,22 @@ use Rattle.reader.proofs.held.Sound.{Sound, sound}
 use Rattle.cycle.specs.Run.{noRun}
 use Rattle.cycle.specs.Cycling.{refused, startCode, started}
 use Rattle.cycle.proofs.cycling.Laws.{few, enough, refused-by, accepted-by, untouched, started-as, settles}
+use Rattle.cycle.proofs.cycling.Kept.{actions-below}
+use Rattle.cycle.proofs.belongs.Laws.{actions-fit}
+use Rattle.sets.proofs.Below.{below-zero}
 use borrow.Author.Needs.{needs}
 use Rattle.cycle.proofs.cycling.start.Statement.{statement}
 use Rattle.cycle.proofs.cycling.start.Tie as tie
 
 -- what passed, seen from a later place
 abbrev call : tie.Else2 → tie.Start
-call c = c .before .before .before .before .before .before .before .before .before .before .before .before .before .before .before .before .before .before
+call c = c .before .before .before
 
 abbrev lent : tie.Else2 → tie.Else1
-lent c = c .before .before .before .before .before .before .before .before .before .before .before .before .before .before .before .before .before
+lent c = c .before .before
 
 chart-zero : (c : tie.Else2) → chartCode (call c .args .t1) ≡ 0
-chart-zero c = sym (c .before .held-code .ensures) ∙ c .if2 .left
+chart-zero c = sym (c .before .chart-code .ensures) ∙ c .if2 .left
 
 chart-sound : (c : tie.Else2) → Sound (call c .args .t1)
 chart-sound c = sound (call c .args .t1) (chart-zero c)
@@ -39,8 +42,8 @@ returns c =
       untouched (a .t1) (c .refused .result) 15 (c .before .no-run .result) (now (a .outputs)) (c .refused .ensures) (λ z. omega arith),
     )
 
-held-code-requires : tie.Need-held-code-requires
-held-code-requires c κs = search needs
+chart-code-requires : tie.Need-chart-code-requires
+chart-code-requires c κs = search needs
 
 no-run-requires-2 : tie.Need-no-run-requires-2
 no-run-requires-2 c κs = search needs
@@ -50,10 +53,10 @@ refused-requires-2 c κs = search needs
 
 returns-2 : tie.Need-returns-2
 returns-2 c =
-    let few-not = c .before .before .before .before .before .before .before .before .before .before .before .before .before .before .before .before .before .before .before in
+    let few-not = c .before .before .before .before in
     let a = few-not .before .args in
     let z = c .before .before .if2 .taken in
-    let e = c .before .before .before .held-code .ensures in (
+    let e = c .before .before .before .chart-code .ensures in (
       refused-by _ _ (started (a .t1) (a .clock)) (c .refused2 .result) noRun (c .before .no-run2 .result) (e ∙ enough _ _ (few-not .if1 .left)) z (c .before .no-run2 .ensures) (c .refused2 .ensures),
       untouched (a .t1) (c .refused2 .result) _ (c .before .no-run2 .result) (now (a .outputs)) (c .refused2 .ensures) z,
     )
@@ -70,7 +73,12 @@ settled-counters-requires : tie.Need-settled-counters-requires
 settled-counters-requires c κs = search needs
 
 settled-timers-requires : tie.Need-settled-timers-requires
-settled-timers-requires c κs = search needs
+settled-timers-requires c κs =
+    let acting = c .before .before .before .before in
+    let held = acting .before .before .before .before .before .before .before .before .before .before .before .before .before .before in
+    let chart = call held .args .t1 in
+    actions-fit chart (acting .settle .result .latched) (chart-sound held)
+    (rw (acting .settle .ensures .0) (actions-below chart _ _ _ 0 0 (chart-sound held) (below-zero (chart .actions)) (below-zero (chart .actions)) .latched)) (search needs)
 
 same-length : tie.Need-same-length
 same-length c = search needs
@@ -95,7 +103,7 @@ start-spec =
     no-run-requires
     refused-requires
     returns
-    held-code-requires
+    chart-code-requires
     no-run-requires-2
     refused-requires-2
     returns-2

@@ -1,49 +1,56 @@
 -- The cases passed that are good, and that are bad.
-use Prim.Native.Nat.{ℕ, _≤_, _-_}
-use mathlib.Core.Path.{ap₂, _≡_}
-use mathlib.Core.Bool.{Bool, _&&_, not}
+use Prim.Native.Nat.{ℕ, _≤_, _<_, _-_}
+use mathlib.Core.Path.{ap₂, _∙_}
+use mathlib.Core.Logic.{⊎-elim}
+use denote.Ref.{now}
 use native.Mathlib.Omega.{arith}
 use borrow.Author.Needs.{needs}
 use native.Mathlib.Nat.{le-antisymm}
 use lib.ListN.{getD}
-use Rattle.sets.specs.Sets.{collect}
-use Rattle.sets.proofs.Members.{collect-start, collect-turn}
-use Rattle.cycle.specs.Moving.{goodAt, badAt, marksOf}
+use Rattle.cycle.specs.Moving.{marksOf}
+use Rattle.cycle.proofs.moving.Laws.{Marked, none-marked, one-marked, one-passed}
 use Rattle.cycle.proofs.moving.marks_of.Statement.{statement}
 use Rattle.cycle.proofs.moving.marks_of.Tie as tie
 
 abbrev Inv-loop : tie.InvT-loop
-Inv-loop n step signal expected left signals good₀ bad₀ i₀ good bad i =
-    (good ≡ collect (λ j. goodAt (getD step j 0) (getD signal j 0) (getD expected j 0) left signals) i)
-    × (bad ≡ collect (λ j. badAt (getD step j 0) (getD signal j 0) (getD expected j 0) left signals) i)
-    × (i ≤ n)
+Inv-loop n step signal expected left signals good₀ bad₀ i₀ good bad i = Marked step signal expected left signals i good bad × (i ≤ n)
 
 abbrev μ-loop : tie.MeasureT-loop
 μ-loop n step signal expected left signals good₀ bad₀ i₀ good bad i = n - i
 
+-- the numbers of a case in hand
+small : (c : tie.In-loop Inv-loop μ-loop) → (getD (now (c .before .before .args .step)) (c .before .loop .i) 0 < 64) × (getD (now (c .before .before .args .signal)) (c .before .loop .i) 0 < 64)
+small c = c .before .before .pre .1 (c .before .loop .i) (c .loop-test .taken)
+
 loop-holds : tie.Need-loop-holds Inv-loop μ-loop
-loop-holds c = (collect-start _, collect-start _, omega arith)
+loop-holds c = (none-marked _ _ _ _ _, omega arith)
 
-element-copy-out-is-left : tie.Need-element-copy-out-is-left Inv-loop μ-loop
-element-copy-out-is-left c = omega arith
+element-copy-out-index-of : tie.Need-element-copy-out-index-of Inv-loop μ-loop
+element-copy-out-index-of c = omega arith
 
-is-left-requires : tie.Need-is-left-requires Inv-loop μ-loop
-is-left-requires c κs = search needs
+index-of-requires : tie.Need-index-of-requires Inv-loop μ-loop
+index-of-requires c κs = search needs
+
+is-in-requires : tie.Need-is-in-requires Inv-loop μ-loop
+is-in-requires c κs = omega (arith, c .index-of .ensures .0, small (c .before .before) .0)
+
+element-copy-out-index-of-2 : tie.Need-element-copy-out-index-of-2 Inv-loop μ-loop
+element-copy-out-index-of-2 c = omega arith
+
+index-of-requires-2 : tie.Need-index-of-requires-2 Inv-loop μ-loop
+index-of-requires-2 c κs = search needs
 
 element-copy-out-as-expected : tie.Need-element-copy-out-as-expected Inv-loop μ-loop
 element-copy-out-as-expected c = omega arith
 
-element-copy-out-as-expected-2 : tie.Need-element-copy-out-as-expected-2 Inv-loop μ-loop
-element-copy-out-as-expected-2 c = omega arith
-
 as-expected-requires : tie.Need-as-expected-requires Inv-loop μ-loop
-as-expected-requires c κs = search needs
+as-expected-requires c κs = omega (arith, c .before .index-of2 .ensures .0, small (c .before .before .before .before .before .before .before) .1)
 
 with-if-requires : tie.Need-with-if-requires Inv-loop μ-loop
-with-if-requires c κs = search needs
+with-if-requires c κs = omega arith
 
 with-if-requires-2 : tie.Need-with-if-requires-2 Inv-loop μ-loop
-with-if-requires-2 c κs = search needs
+with-if-requires-2 c κs = omega arith
 
 add-i : tie.Need-add-i Inv-loop μ-loop
 add-i c = omega arith
@@ -53,11 +60,11 @@ loop-less c = omega arith
 
 loop-again : tie.Need-loop-again Inv-loop μ-loop
 loop-again c =
-    let l = c .before .before .before .before .before .before .before .before .loop in
-    let e = c .before .before .before .before .before .is-left .ensures in
-    let f = c .before .before .as-expected .ensures in (
-      collect-turn _ _ _ _ _ (omega arith) (l .inv .0) (ap₂ _&&_ e f) (c .before .with-if .ensures),
-      collect-turn _ _ _ _ _ (omega arith) (l .inv .1) (ap₂ (λ (x y : Bool). x && not y) e f) (c .with-if2 .ensures),
+    let l = c .before .before .before .before .before .loop in
+    let e = c .before .before .index-of .ensures .0 in
+    let o = c .before .is-in .ensures in (
+      ⊎-elim (λ w. one-marked _ _ _ _ _ _ _ _ _ _ _ _ (omega arith) (l .inv .0) e o _ _ (w .0 .taken) (w .2 .ensures .0) (w .4 .ensures) (w .7 ∙ w .5 .ensures) (w .8 ∙ w .6 .ensures))
+          (λ w. one-passed _ _ _ _ _ _ _ _ _ _ _ _ (omega arith) (l .inv .0) e o (w .0 .left) (w .1) (w .2)) (c .if1 .came),
       omega arith,
     )
 
@@ -65,7 +72,7 @@ returns : tie.Need-returns Inv-loop μ-loop
 unfolding marksOf
 returns c =
     let l = c .before .loop in
-    rw (le-antisymm (c .loop-test .left) (l .inv .2)) (ap₂ (λ (x y : ℕ). record { good = x; bad = y }) (l .inv .0) (l .inv .1))
+    rw (le-antisymm (c .loop-test .left) (l .inv .1)) (ap₂ (λ (x y : ℕ). record { good = x; bad = y }) (l .inv .0 .goods) (l .inv .0 .bads))
 
 pub marks-of-spec : {M : Type 1} → statement M
 marks-of-spec =
@@ -74,10 +81,12 @@ marks-of-spec =
     Inv-loop
     μ-loop
     loop-holds
-    element-copy-out-is-left
-    is-left-requires
+    element-copy-out-index-of
+    index-of-requires
+    is-in-requires
+    element-copy-out-index-of-2
+    index-of-requires-2
     element-copy-out-as-expected
-    element-copy-out-as-expected-2
     as-expected-requires
     with-if-requires
     with-if-requires-2

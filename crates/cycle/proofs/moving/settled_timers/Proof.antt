@@ -1,50 +1,48 @@
--- Each place passed has its kept number.
-use mathlib.Core.Path.{refl, ap}
-use Prim.Native.Nat.{_≤_, _-_}
+-- Each kept place has its number, the others 0 from the beginning.
 use native.Mathlib.Omega.{arith}
-use borrow.Author.Needs.{needs}
-use Rattle.sets.proofs.Loops.{Written, written-start, written-turn, written-end}
 use lib.ListN.{getD}
+use borrow.Author.Needs.{needs}
+use Rattle.sets.proofs.Visits.{Filled, filled-start, filled-turn, filled-end, visit-lt, visit-less}
 use Rattle.cycle.specs.Run.{timer}
 use Rattle.cycle.specs.Moving.{keptCount}
 use Rattle.cycle.proofs.moving.settled_timers.Statement.{statement}
 use Rattle.cycle.proofs.moving.settled_timers.Tie as tie
 
 abbrev Inv-loop : tie.InvT-loop
-Inv-loop times kept out₀ k₀ out k = Written (timer 0) (λ j. timer (keptCount kept j (getD times j 0))) 32 k out × (k ≤ 32)
+Inv-loop times kept out₀ rest₀ out rest = Filled (timer 0) (λ j. timer (keptCount kept j (getD times j 0))) 32 kept rest out
 
 abbrev μ-loop : tie.MeasureT-loop
-μ-loop times kept out₀ k₀ out k = 32 - k
+μ-loop times kept out₀ rest₀ out rest = rest
 
 loop-holds : tie.Need-loop-holds Inv-loop μ-loop
-loop-holds c = (written-start _ _ _ _ refl, omega arith)
+loop-holds c = filled-start (omega arith) (search needs) (λ j n. rw n)
 
-mul-kept-count : tie.Need-mul-kept-count Inv-loop μ-loop
-mul-kept-count c = omega arith
+first-requires : tie.Need-first-requires Inv-loop μ-loop
+first-requires c κs = search needs
 
-element-copy-out-kept-count : tie.Need-element-copy-out-kept-count Inv-loop μ-loop
-element-copy-out-kept-count c = omega arith
+element-copy-out-t11 : tie.Need-element-copy-out-t11 Inv-loop μ-loop
+element-copy-out-t11 c = visit-lt (c .before .before .loop .inv .visited) (c .before .loop-test .taken) (c .first .ensures)
 
-kept-count-requires : tie.Need-kept-count-requires Inv-loop μ-loop
-kept-count-requires c κs = search needs
+mul-t8 : tie.Need-mul-t8 Inv-loop μ-loop
+mul-t8 c = omega (arith, element-copy-out-t11 c)
 
 mul-out : tie.Need-mul-out Inv-loop μ-loop
-mul-out c = omega arith
+mul-out c = mul-t8 (c .before)
 
 array-set-from-out : tie.Need-array-set-from-out Inv-loop μ-loop
-array-set-from-out c = omega arith
+array-set-from-out c = element-copy-out-t11 (c .before)
 
-add-k : tie.Need-add-k Inv-loop μ-loop
-add-k c = omega arith
+without-first-requires : tie.Need-without-first-requires Inv-loop μ-loop
+without-first-requires c κs = search needs
 
 loop-less : tie.Need-loop-less Inv-loop μ-loop
-loop-less c = omega arith
+loop-less c = visit-less (c .before .before .before .before .loop .inv .visited) (c .before .before .before .loop-test .taken) (c .before .before .first .ensures) (c .without-first .ensures)
 
 loop-again : tie.Need-loop-again Inv-loop μ-loop
-loop-again c = (written-turn _ _ _ _ _ _ (c .before .before .before .loop .inv .0) (omega arith) (ap timer (c .kept-count .ensures)), omega arith)
+loop-again c = filled-turn (c .before .before .before .before .loop .inv) (c .before .before .before .loop-test .taken) (c .before .before .first .ensures) (c .without-first .ensures) (λ h. rw h)
 
 returns : tie.Need-returns Inv-loop μ-loop
-returns c = written-end _ _ _ (c .before .loop .k) _ (c .before .loop .inv .0) (omega arith)
+returns c = filled-end (c .before .loop .inv) (c .loop-test .left)
 
 pub settled-timers-spec : {M : Type 1} → statement M
 settled-timers-spec =
@@ -53,12 +51,12 @@ settled-timers-spec =
     Inv-loop
     μ-loop
     loop-holds
-    mul-kept-count
-    element-copy-out-kept-count
-    kept-count-requires
+    first-requires
+    mul-t8
+    element-copy-out-t11
     mul-out
     array-set-from-out
-    add-k
+    without-first-requires
     loop-less
     loop-again
     returns)

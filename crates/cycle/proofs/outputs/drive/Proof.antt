@@ -1,12 +1,12 @@
 -- What each output has from the actions passed, the last first.
-use mathlib.Core.Path.{ap, _∙_, refl, _≡_}
+use mathlib.Core.Path.{ap, sym, _∙_, refl, _≡_}
 use denote.Ref.{now}
 use mir.Syntax.{w32}
 use mir.Val.{SFits}
 use mir.Facts.{toZ-ofZ}
-use borrow.Author.Needs.{sfits-of, needs}
+use borrow.Author.Needs.{needs}
 use Rattle.cycle.specs.Outputs.{outputOf}
-use Rattle.cycle.proofs.outputs.Laws.{front-as, Front, front-put, front-end, from, from-end, from-all, from-written, from-other}
+use Rattle.cycle.proofs.outputs.Laws.{front-as, Front, front-put, front-end, from, from-end, from-all, from-idle, from-written, from-other}
 use Prim.Native.Nat.{ℕ, _<_, _≤_, _-_}
 use native.Mathlib.Omega.{arith}
 use lib.IntN.{pos}
@@ -23,8 +23,9 @@ abbrev μ-loop : tie.MeasureT-loop
 -- the output that an action drives is one of the 32
 small : (c : tie.After-index-of Inv-loop μ-loop) → c .index-of .result < 32
 small c =
-    let l = c .before .before .before .loop in
-    omega (arith, c .index-of .ensures .0, c .before .before .before .before .pre .2 (l .a - 1) (below (l .a) _ (c .before .before .loop-test .taken) (l .inv .1)))
+    let turn = c .before .before .before .before .before in
+    let l = turn .before .loop in
+    omega (arith, c .index-of .ensures .0, turn .before .before .pre .2 (l .a - 1) (below (l .a) _ (turn .loop-test .taken) (l .inv .1)))
   where
     below : (a n : ℕ) → 0 < a → a ≤ n → a - 1 < n
     below a n h k = omega arith
@@ -35,53 +36,55 @@ loop-holds c = (record { long = refl; passed = λ j h. from-end _ _ _ _ _ j; beh
 sub-a : tie.Need-sub-a Inv-loop μ-loop
 sub-a c = omega arith
 
+is-in-requires : tie.Need-is-in-requires Inv-loop μ-loop
+is-in-requires c κs = omega arith
+
+mul-out : tie.Need-mul-out Inv-loop μ-loop
+mul-out c = omega arith
+
+element-copy-out-out : tie.Need-element-copy-out-out Inv-loop μ-loop
+element-copy-out-out c = omega arith
+
 element-copy-out-index-of : tie.Need-element-copy-out-index-of Inv-loop μ-loop
 element-copy-out-index-of c = omega arith
 
 index-of-requires : tie.Need-index-of-requires Inv-loop μ-loop
 index-of-requires c κs = search needs
 
-mul-old : tie.Need-mul-old Inv-loop μ-loop
-mul-old c = omega (arith, small c)
-
-slice-copy-out-old : tie.Need-slice-copy-out-old Inv-loop μ-loop
-slice-copy-out-old c = let w = c .before .before .before .loop .inv .0 in omega (arith, small c, w .long, c .before .before .before .before .pre .0)
-
-mul-new : tie.Need-mul-new Inv-loop μ-loop
-mul-new c = omega arith
-
-element-copy-out-new : tie.Need-element-copy-out-new Inv-loop μ-loop
-element-copy-out-new c = omega arith
-
-is-in-requires : tie.Need-is-in-requires Inv-loop μ-loop
-is-in-requires c κs = search needs
-
-pick-requires : tie.Need-pick-requires Inv-loop μ-loop
-pick-requires c κs = search needs
-
-mul-t14 : tie.Need-mul-t14 Inv-loop μ-loop
-mul-t14 c = omega arith
+mul-t17 : tie.Need-mul-t17 Inv-loop μ-loop
+mul-t17 c = omega (arith, small c)
 
 slice-set-from-out : tie.Need-slice-set-from-out Inv-loop μ-loop
-slice-set-from-out c = let w = c .before .before .before .before .before .before .before .loop .inv .0 in omega (arith, small (c .before .before .before .before), w .long, c .before .before .before .before .before .before .before .before .pre .0)
+slice-set-from-out c =
+    let l = c .before .before .before .before .before .before in
+    omega (arith, small c, l .loop .inv .0 .long, l .before .pre .0)
 
 loop-less : tie.Need-loop-less Inv-loop μ-loop
 loop-less c = omega arith
 
 loop-again : tie.Need-loop-again Inv-loop μ-loop
 loop-again c =
-    let l = c .before .before .before .before .before .before .before .loop in
-    let s = c .before .before .before .before .before .before .before .before in
-    let h : SFits w32 (getD (now (s .args .value)) (l .a - 1) (pos 0)) = search needs in
-    let k : SFits w32 (getD (l .out) (c .before .before .before .before .index-of .result) (pos 0)) = search needs in
-    let picked = rw (toZ-ofZ {w = w32} h, toZ-ofZ {w = w32} k) at (c .pick .ensures) in (
-      front-put 32 _ _ _ _ _ _ _ (l .inv .0) (small (c .before .before .before .before)) (s .pre .0)
-          (toZ-ofZ {w = w32} (sfits-of (c .pick .ok))
-          ∙ from-written (s .args .n) (now (s .args .output)) (now (s .args .value)) (s .args .activity) (l .a) _ _ _ (getD (l .out) (c .before .before .before .before .index-of .result) (pos 0)) _ (c .before .before .before .before .before .before .loop-test .taken) (l .inv .1) (c .before .before .before .before .index-of .ensures .0) (c .before .is-in .ensures)
-          (l .inv .0 .passed _ (small (c .before .before .before .before))) picked)
-          (λ j q z. from-other (s .args .n) _ _ _ (l .a) _ _ j (c .before .before .before .before .before .before .loop-test .taken) (l .inv .1) (c .before .before .before .before .index-of .ensures .0) z),
+    let active = c .before .before .before in
+    let turn = active .before .before in
+    let l = turn .before .loop in
+    let s = turn .before .before in
+    let f = sym (active .before .is-in .ensures) ∙ active .if1 .taken in
+    let fits : SFits w32 (getD (now (s .args .value)) (l .a - 1) (pos 0)) = search needs in (
+      front-put 32 _ _ _ _ _ _ _ (l .inv .0) (small c) (s .pre .0)
+          (toZ-ofZ {w = w32} fits ∙ from-written (s .args .n) (now (s .args .output)) (now (s .args .value)) (s .args .activity) (l .a) _ (turn .loop-test .taken) (l .inv .1) _ f (c .index-of .ensures .0))
+          (λ j q z. from-other (s .args .n) _ _ _ (l .a) _ (turn .loop-test .taken) (l .inv .1) _ j f (c .index-of .ensures .0) z),
       omega arith,
     )
+
+loop-less-2 : tie.Need-loop-less-2 Inv-loop μ-loop
+loop-less-2 c = omega arith
+
+loop-again-2 : tie.Need-loop-again-2 Inv-loop μ-loop
+loop-again-2 c =
+    let turn = c .before .before in
+    let l = turn .before .loop in
+    let s = turn .before .before in
+    (front-as 32 _ _ 32 _ _ (l .inv .0) (λ j q. from-idle (s .args .n) _ _ _ (l .a) _ (turn .loop-test .taken) (l .inv .1) j (sym (c .before .is-in .ensures) ∙ c .if1 .left)), omega arith)
 
 same-length : tie.Need-same-length Inv-loop μ-loop
 same-length c = c .before .loop .inv .0 .long
@@ -104,17 +107,16 @@ drive-spec =
     μ-loop
     loop-holds
     sub-a
+    is-in-requires
+    mul-out
+    element-copy-out-out
     element-copy-out-index-of
     index-of-requires
-    mul-old
-    slice-copy-out-old
-    mul-new
-    element-copy-out-new
-    is-in-requires
-    pick-requires
-    mul-t14
+    mul-t17
     slice-set-from-out
     loop-less
     loop-again
+    loop-less-2
+    loop-again-2
     same-length
     returns)

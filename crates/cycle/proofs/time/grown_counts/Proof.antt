@@ -1,50 +1,51 @@
--- Each place passed has its grown number.
-use mathlib.Core.Path.{refl}
-use Prim.Native.Nat.{_≤_, _-_}
+-- Each member's place has its grown number, the others 0 from the beginning.
 use native.Mathlib.Omega.{arith}
-use borrow.Author.Needs.{needs}
-use Rattle.sets.proofs.Loops.{Written, written-start, written-turn, written-end}
 use lib.ListN.{getD}
+use borrow.Author.Needs.{needs}
+use Rattle.sets.proofs.Visits.{Filled, filled-start, filled-turn, filled-end, visit-lt, visit-less}
 use Rattle.cycle.specs.Run.{counter}
 use Rattle.cycle.specs.Time.{grownCount}
 use Rattle.cycle.proofs.time.grown_counts.Statement.{statement}
 use Rattle.cycle.proofs.time.grown_counts.Tie as tie
 
 abbrev Inv-loop : tie.InvT-loop
-Inv-loop active e held out₀ k₀ out k = Written 0 (λ j. grownCount active e j (getD held j (counter 0))) 64 k out × (k ≤ 64)
+Inv-loop active e held out₀ rest₀ out rest = Filled 0 (λ j. grownCount active e j (getD held j (counter 0))) 64 active rest out
 
 abbrev μ-loop : tie.MeasureT-loop
-μ-loop active e held out₀ k₀ out k = 64 - k
+μ-loop active e held out₀ rest₀ out rest = rest
 
 loop-holds : tie.Need-loop-holds Inv-loop μ-loop
-loop-holds c = (written-start _ _ _ _ refl, omega arith)
+loop-holds c = filled-start (omega arith) (search needs) (λ j n. rw n)
 
-mul-c : tie.Need-mul-c Inv-loop μ-loop
-mul-c c = omega arith
+first-requires : tie.Need-first-requires Inv-loop μ-loop
+first-requires c κs = search needs
 
 array-copy-out-c : tie.Need-array-copy-out-c Inv-loop μ-loop
-array-copy-out-c c = omega arith
+array-copy-out-c c = visit-lt (c .before .before .loop .inv .visited) (c .before .loop-test .taken) (c .first .ensures)
 
-grown-count-requires : tie.Need-grown-count-requires Inv-loop μ-loop
-grown-count-requires c κs = search needs
+mul-c : tie.Need-mul-c Inv-loop μ-loop
+mul-c c = omega (arith, array-copy-out-c c)
+
+longer-requires : tie.Need-longer-requires Inv-loop μ-loop
+longer-requires c κs = search needs
 
 mul-out : tie.Need-mul-out Inv-loop μ-loop
-mul-out c = omega arith
+mul-out c = mul-c (c .before .before)
 
 array-write-out : tie.Need-array-write-out Inv-loop μ-loop
-array-write-out c = omega arith
+array-write-out c = array-copy-out-c (c .before .before)
 
-add-k : tie.Need-add-k Inv-loop μ-loop
-add-k c = omega arith
+without-first-requires : tie.Need-without-first-requires Inv-loop μ-loop
+without-first-requires c κs = search needs
 
 loop-less : tie.Need-loop-less Inv-loop μ-loop
-loop-less c = omega arith
+loop-less c = visit-less (c .before .before .before .before .before .loop .inv .visited) (c .before .before .before .before .loop-test .taken) (c .before .before .before .first .ensures) (c .without-first .ensures)
 
 loop-again : tie.Need-loop-again Inv-loop μ-loop
-loop-again c = (written-turn _ _ _ _ _ _ (c .before .before .before .loop .inv .0) (omega arith) (c .grown-count .ensures), omega arith)
+loop-again c = filled-turn (c .before .before .before .before .before .loop .inv) (c .before .before .before .before .loop-test .taken) (c .before .before .before .first .ensures) (c .without-first .ensures) (λ h. rw (h, c .before .longer .ensures))
 
 returns : tie.Need-returns Inv-loop μ-loop
-returns c = written-end _ _ _ (c .before .loop .k) _ (c .before .loop .inv .0) (omega arith)
+returns c = filled-end (c .before .loop .inv) (c .loop-test .left)
 
 pub grown-counts-spec : {M : Type 1} → statement M
 grown-counts-spec =
@@ -53,12 +54,13 @@ grown-counts-spec =
     Inv-loop
     μ-loop
     loop-holds
+    first-requires
     mul-c
     array-copy-out-c
-    grown-count-requires
+    longer-requires
     mul-out
     array-write-out
-    add-k
+    without-first-requires
     loop-less
     loop-again
     returns)

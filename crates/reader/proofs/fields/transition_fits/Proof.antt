@@ -1,30 +1,49 @@
--- By its callees' statements.
+-- By its callees' statements, the last call first; each pair of sets is tested as one.
+use Rattle.reader.proofs.fields.Laws.{transition-pairs}
 use borrow.Author.Needs.{needs}
 use Rattle.reader.proofs.fields.transition_fits.Statement.{statement}
 use Rattle.reader.proofs.fields.transition_fits.Tie as tie
 
-names-below-requires : tie.Need-names-below-requires
-names-below-requires c κs = search needs
+joined-requires : tie.Need-joined-requires
+joined-requires c κs = search needs
 
-names-below-requires-2 : tie.Need-names-below-requires-2
-names-below-requires-2 c κs = search needs
+beyond-requires : tie.Need-beyond-requires
+beyond-requires c κs = search needs
 
-signals-exist-requires : tie.Need-signals-exist-requires
-signals-exist-requires c κs = search needs
+is-apart-requires : tie.Need-is-apart-requires
+is-apart-requires c κs = search needs
 
-signals-exist-requires-2 : tie.Need-signals-exist-requires-2
-signals-exist-requires-2 c κs = search needs
+joined-requires-2 : tie.Need-joined-requires-2
+joined-requires-2 c κs = search needs
+
+no-signals-requires : tie.Need-no-signals-requires
+no-signals-requires c κs = search needs
+
+is-apart-requires-2 : tie.Need-is-apart-requires-2
+is-apart-requires-2 c κs = search needs
 
 returns : tie.Need-returns
 returns c =
-    rw (c .before .before .before .names-below .ensures, c .before .before .names-below2 .ensures, c .before .signals-exist .ensures, c .signals-exist2 .ensures)
+    let pair = c .before .before .before in
+    let a = pair .before .before .before .args in
+    rw (
+      c .is-apart2 .ensures,
+      c .before .no-signals .ensures,
+      c .before .before .joined2 .ensures,
+      pair .is-apart .ensures,
+      pair .before .beyond .ensures,
+      pair .before .before .joined .ensures,
+    )
+    (transition-pairs (a .steps) (a .actions) (a .sources) (a .targets) (a .on) (a .off) (a .wait))
 
 pub transition-fits-spec : {M : Type 1} → statement M
 transition-fits-spec =
     tie.close
     (tie.spec
-    names-below-requires
-    names-below-requires-2
-    signals-exist-requires
-    signals-exist-requires-2
+    joined-requires
+    beyond-requires
+    is-apart-requires
+    joined-requires-2
+    no-signals-requires
+    is-apart-requires-2
     returns)

@@ -1,77 +1,42 @@
--- Every block passed fits exactly if `fit` says so.
+-- By its callees' statements: the three tests together are the test of each block.
 use denote.Ref.{now}
-use Prim.Native.Nat.{_≤_, _-_}
-use mathlib.Core.Path.{_≡_}
-use native.Mathlib.Omega.{arith}
+use Rattle.reader.proofs.held.Laws.{columns-code}
 use borrow.Author.Needs.{needs}
-use Rattle.sets.specs.Loops.{all}
-use Rattle.sets.proofs.Loops.{all-start, all-turn}
-use Rattle.reader.specs.Held.{blockFitsAt, blocksCode}
-use Rattle.reader.proofs.held.Laws.{column-end}
 use Rattle.reader.proofs.held.blocks_code.Statement.{statement}
 use Rattle.reader.proofs.held.blocks_code.Tie as tie
 
-abbrev Inv-loop : tie.InvT-loop
-Inv-loop n steps actions blockstep blockaction qualifier duration fit₀ i₀ fit i = (fit ≡ all (blockFitsAt steps actions blockstep blockaction qualifier duration) i) × (i ≤ n)
+cast-block-names-fit : tie.Need-cast-block-names-fit
+cast-block-names-fit c = search needs
 
-abbrev μ-loop : tie.MeasureT-loop
-μ-loop n steps actions blockstep blockaction qualifier duration fit₀ i₀ fit i = n - i
+cast-block-names-fit-2 : tie.Need-cast-block-names-fit-2
+cast-block-names-fit-2 c = search needs
 
-loop-holds : tie.Need-loop-holds Inv-loop μ-loop
-loop-holds c = (all-start _, omega arith)
+block-names-fit-requires : tie.Need-block-names-fit-requires
+block-names-fit-requires c κs = search needs
 
-element-copy-out-block-fits : tie.Need-element-copy-out-block-fits Inv-loop μ-loop
-element-copy-out-block-fits c = omega arith
+durations-fit-requires : tie.Need-durations-fit-requires
+durations-fit-requires c κs = search needs
 
-element-copy-out-block-fits-2 : tie.Need-element-copy-out-block-fits-2 Inv-loop μ-loop
-element-copy-out-block-fits-2 c = omega arith
+untimed-fit-requires : tie.Need-untimed-fit-requires
+untimed-fit-requires c κs = search needs
 
-element-copy-out-block-fits-3 : tie.Need-element-copy-out-block-fits-3 Inv-loop μ-loop
-element-copy-out-block-fits-3 c = omega arith
-
-mul-block-fits : tie.Need-mul-block-fits Inv-loop μ-loop
-mul-block-fits c = omega arith
-
-element-copy-out-block-fits-4 : tie.Need-element-copy-out-block-fits-4 Inv-loop μ-loop
-element-copy-out-block-fits-4 c = omega arith
-
-block-fits-requires : tie.Need-block-fits-requires Inv-loop μ-loop
-block-fits-requires c κs = search needs
-
-add-i : tie.Need-add-i Inv-loop μ-loop
-add-i c = omega arith
-
-loop-less : tie.Need-loop-less Inv-loop μ-loop
-loop-less c = omega arith
-
-loop-again : tie.Need-loop-again Inv-loop μ-loop
-loop-again c = (all-turn _ _ (c .before .before .before .before .before .before .loop .inv .0) (c .block-fits .ensures), omega arith)
-
-unless-requires : tie.Need-unless-requires Inv-loop μ-loop
+unless-requires : tie.Need-unless-requires
 unless-requires c κs = search needs
 
-returns : tie.Need-returns Inv-loop μ-loop
-unfolding blocksCode
+returns : tie.Need-returns
 returns c =
-    let a = c .before .before .before .args in
-    let l = c .before .before .loop in
-    column-end (blockFitsAt (a .steps) (a .actions) (now (a .blockstep)) (now (a .blockaction)) (now (a .qualifier)) (now (a .duration))) (a .n) (l .i) (c .unless .ensures) (l .inv .0) (c .before .loop-test .left) (l .inv .1)
+    let a = c .before .before .before .before .args in
+    rw (c .unless .ensures, c .before .untimed-fit .ensures, c .before .before .durations-fit .ensures, c .before .before .before .block-names-fit .ensures)
+    (columns-code (a .n) (a .steps) (a .actions) (now (a .blockstep)) (now (a .blockaction)) (now (a .qualifier)) (now (a .duration)))
 
 pub blocks-code-spec : {M : Type 1} → statement M
 blocks-code-spec =
     tie.close
     (tie.spec
-    Inv-loop
-    μ-loop
-    loop-holds
-    element-copy-out-block-fits
-    element-copy-out-block-fits-2
-    element-copy-out-block-fits-3
-    mul-block-fits
-    element-copy-out-block-fits-4
-    block-fits-requires
-    add-i
-    loop-less
-    loop-again
+    cast-block-names-fit
+    cast-block-names-fit-2
+    block-names-fit-requires
+    durations-fit-requires
+    untimed-fit-requires
     unless-requires
     returns)

@@ -27,10 +27,10 @@ transitions-code-requires : tie.Need-transitions-code-requires
 transitions-code-requires c κs = kept (c .before .before) .transitions
 
 blocks-code-requires : tie.Need-blocks-code-requires
-blocks-code-requires c κs = kept (c .before .before .before) .blocks
+blocks-code-requires c κs = let k = kept (c .before .before .before) in (k .blocks, k .steps, k .actions)
 
 cases-code-requires : tie.Need-cases-code-requires
-cases-code-requires c κs = kept (c .before .before .before .before) .cases
+cases-code-requires c κs = let k = kept (c .before .before .before .before) in (k .cases, k .steps, k .actions)
 
 closing-code-requires : tie.Need-closing-code-requires
 closing-code-requires c κs = let k = kept (c .before .before .before .before .before) in (k .steps, k .blocks)

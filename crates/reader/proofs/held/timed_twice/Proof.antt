@@ -1,10 +1,12 @@
 -- `seen` has the actions with a timed block so far, and `twice` whether one had two.
 use Prim.Native.Nat.{_≤_, _-_}
+use mathlib.Core.Logic.{⊎-elim}
+use mathlib.Core.Path.{sym, _∙_}
 use native.Mathlib.Nat.{le-antisymm}
 use native.Mathlib.Omega.{arith}
 use borrow.Author.Needs.{needs}
 use Rattle.reader.specs.Held.{timedTwice}
-use Rattle.reader.proofs.held.Laws.{Seen, none-seen, one-seen}
+use Rattle.reader.proofs.held.Laws.{Seen, none-seen, one-seen, not-seen}
 use Rattle.reader.proofs.held.timed_twice.Statement.{statement}
 use Rattle.reader.proofs.held.timed_twice.Tie as tie
 
@@ -29,8 +31,8 @@ element-copy-out-index-of c = omega arith
 index-of-requires : tie.Need-index-of-requires Inv-loop μ-loop
 index-of-requires c κs = search needs
 
-array-read-again : tie.Need-array-read-again Inv-loop μ-loop
-array-read-again c = c .index-of .ensures .1
+array-read-twice : tie.Need-array-read-twice Inv-loop μ-loop
+array-read-twice c = c .index-of .ensures .1
 
 array-write-seen : tie.Need-array-write-seen Inv-loop μ-loop
 array-write-seen c = c .index-of .ensures .1
@@ -43,8 +45,13 @@ loop-less c = omega arith
 
 loop-again : tie.Need-loop-again Inv-loop μ-loop
 loop-again c =
-    let l = c .before .before .before .before .before .loop in
-    (one-seen _ _ _ _ _ (l .inv .0) _ _ (c .before .before .is-timed .ensures) (c .index-of .ensures .0) (c .index-of .ensures .1), omega arith)
+    let l = c .before .before .before .before .loop in (
+      ⊎-elim
+          (λ w. rw (w .3, w .4) (one-seen _ _ _ _ _ (l .inv .0) _ (sym (w .0 .taken) ∙ c .before .is-timed .ensures) (w .2 .ensures .0) (w .2 .ensures .1)))
+          (λ w. rw (w .1, w .2) (not-seen _ _ _ _ _ (l .inv .0) (sym (w .0 .left) ∙ c .before .is-timed .ensures)))
+          (c .if1 .came),
+      omega arith,
+    )
 
 returns : tie.Need-returns Inv-loop μ-loop
 unfolding timedTwice
@@ -63,7 +70,7 @@ timed-twice-spec =
     is-timed-requires
     element-copy-out-index-of
     index-of-requires
-    array-read-again
+    array-read-twice
     array-write-seen
     add-i
     loop-less
