@@ -29,12 +29,12 @@ use Rattle.cycle.specs.declared.run.Run.{Run}
 use Rattle.cycle.specs.declared.cycling.Cycled.{Cycled}
 use Rattle.cycle.proofs.cycling.Kept.{start-refused, cycle-refused}
 use Rattle.cycle.proofs.cycling.Laws.{few, enough, stops, goes-on, other-run, own-run, too-late, in-time}
-use Rattle.report.specs.Tallying.{tallyCode, tallyOf}
-use Rattle.report.specs.Weighing.{balanced, unbalancedIn, weighCode, refused, weighed, weighOf}
-use Rattle.report.specs.Tracing.{recordFits, traceNumber}
-use Rattle.report.specs.declared.tallying.Tallied.{Tallied}
-use Rattle.report.specs.declared.weighing.Weighed.{Weighed}
-use Rattle.report.proofs.weighing.Laws.{weights-refused, balance-refused, accepted}
+use Rattle.tally.specs.Tallying.{tallyCode, tallyOf}
+use Rattle.tally.specs.Weighing.{balanced, unbalancedIn, weighCode, refused, weighed, weighOf}
+use Rattle.trace.specs.Tracing.{recordFits, traceNumber}
+use Rattle.tally.specs.declared.tallying.Tallied.{Tallied}
+use Rattle.tally.specs.declared.weighing.Weighed.{Weighed}
+use Rattle.tally.proofs.weighing.Laws.{weights-refused, balance-refused, accepted}
 use Rattle.reader.proofs.held.Each.{chart-each}
 use Rattle.claims.specs.Numbers.{record-each, read-each, start-each, cycle-each, tally-each, weigh-each, trace-each, start-code, cycle-code, tally-code, weigh-code, tally-refused, weigh-refused, weigh-names, all-balanced, first-unbalanced, left-alone, front-written, rest-kept}
 

@@ -27,8 +27,8 @@ use Rattle.cycle.specs.Outputs.{first, outputsOf}
 use Rattle.cycle.specs.Cycling.{startOf, cycleOf, outputsAfter}
 use Rattle.cycle.specs.declared.run.Run.{Run}
 use Rattle.cycle.specs.declared.cycling.Cycled.{Cycled}
-use Rattle.report.specs.Tallying.{tallyOf}
-use Rattle.report.specs.Weighing.{weightIn, unbalanced, weighOf}
+use Rattle.tally.specs.Tallying.{tallyOf}
+use Rattle.tally.specs.Weighing.{weightIn, unbalanced, weighOf}
 use Rattle.claims.specs.Runs.{Call, after, begun}
 use Rattle.claims.specs.Weights.{weighed-apart}
 

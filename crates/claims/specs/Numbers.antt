@@ -29,11 +29,11 @@ use Rattle.cycle.specs.Outputs.{outputsOf}
 use Rattle.cycle.specs.Cycling.{refused as turned-away, startCode, cycleCode, started, startOf, cycled, cycleOf, outputsAfter}
 use Rattle.cycle.specs.declared.run.Run.{Run}
 use Rattle.cycle.specs.declared.cycling.Cycled.{Cycled}
-use Rattle.report.specs.Tallying.{countsOf, refused as uncounted, tallyCode, tallyOf}
-use Rattle.report.specs.Weighing.{balanced, unbalanced, unbalancedIn, weighCode, refused as unweighed, weighed, weighOf}
-use Rattle.report.specs.Tracing.{isOver, recordFits, traceNumber}
-use Rattle.report.specs.declared.tallying.Tallied.{Tallied}
-use Rattle.report.specs.declared.weighing.Weighed.{Weighed}
+use Rattle.tally.specs.Tallying.{countsOf, refused as uncounted, tallyCode, tallyOf}
+use Rattle.tally.specs.Weighing.{balanced, unbalanced, unbalancedIn, weighCode, refused as unweighed, weighed, weighOf}
+use Rattle.trace.specs.Tracing.{isOver, recordFits, traceNumber}
+use Rattle.tally.specs.declared.tallying.Tallied.{Tallied}
+use Rattle.tally.specs.declared.weighing.Weighed.{Weighed}
 
 -- ---- an answer by its number
 

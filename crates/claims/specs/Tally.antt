@@ -15,9 +15,9 @@ use Rattle.cycle.specs.Moving.{signalsOf, asExpected}
 use Rattle.cycle.specs.declared.run.Run.{Run}
 use Rattle.cycle.specs.declared.cycling.Cycled.{Cycled}
 use Rattle.cycle.proofs.cycling.Kept.{start-belongs}
-use Rattle.report.specs.Tallying.{isPassed, isFailed, isNotRun, countsOf, tallyOf}
-use Rattle.report.specs.declared.tallying.Tallied.{Tallied}
-use Rattle.report.proofs.tallying.Laws.{accepted}
+use Rattle.tally.specs.Tallying.{isPassed, isFailed, isNotRun, countsOf, tallyOf}
+use Rattle.tally.specs.declared.tallying.Tallied.{Tallied}
+use Rattle.tally.proofs.tallying.Laws.{accepted}
 use Rattle.claims.specs.Runs.{Call, answer, after, begun}
 use Rattle.claims.specs.Marks.{only-good, neither, marks, start-passes, Unmarked, start-unmarked, after-belongs}
 

@@ -5,8 +5,10 @@ use mathlib.Core.List.{List}
 use mathlib.Core.Path.{_≡_}
 use lib.IntN.{ℤ}
 use lib.ListN.{length}
-use Rattle.sets.specs.Sets.{has, Within, Apart, Below, union, inter, minus, insert, size}
-use Rattle.sets.proofs.Unique.{is-in-unique, is-within-unique, is-apart-unique, names-below-unique, joined-unique, common-unique, without-unique, with-unique, with-if-unique, size-unique}
+use mir.Syntax.{w32}
+use mir.Val.{toZ}
+use Rattle.sets.specs.Sets.{has, Within, Apart, Below, union, inter, minus, insert, beyond, first, remove, size}
+use Rattle.sets.proofs.Unique.{is-in-unique, is-within-unique, is-apart-unique, names-below-unique, joined-unique, common-unique, without-unique, with-unique, with-if-unique, beyond-unique, first-unique, without-first-unique, size-unique}
 use Rattle.reader.specs.Numbers.{leFrom}
 use Rattle.reader.specs.Framing.{Answers}
 use Rattle.reader.specs.Chart.{noChart}
@@ -16,27 +18,29 @@ use Rattle.reader.specs.declared.framing.Next.{Next}
 use Rattle.reader.specs.declared.chart.Chart.{Chart}
 use Rattle.reader.specs.declared.reading.Reading.{Reading}
 use Rattle.reader.proofs.framing.Laws.{record-at-unique}
-use Rattle.reader.proofs.Unique.{no-chart-unique, held-code-unique, chart-code-unique, from-unique, index-of-unique, read-chart-unique}
+use Rattle.reader.proofs.Unique.{no-chart-unique, held-code-unique, chart-code-unique, from-unique, signed-unique, index-of-unique, read-chart-unique}
 use Rattle.cycle.specs.Run.{noRun, longerCounter, longerTimer}
 use Rattle.cycle.specs.Time.{elapsed}
 use Rattle.cycle.specs.Moving.{initialOf}
 use Rattle.cycle.specs.Belongs.{belongsTo}
-use Rattle.cycle.specs.Cycling.{startOf, cycleOf, outputsAfter}
+use Rattle.cycle.specs.Cycling.{startOf, cycleOf, outputsAfter, cycleOn}
 use Rattle.cycle.specs.declared.run.StepCounter.{StepCounter}
 use Rattle.cycle.specs.declared.run.ActionTimer.{ActionTimer}
 use Rattle.cycle.specs.declared.run.Run.{Run}
 use Rattle.cycle.specs.declared.cycling.Cycled.{Cycled}
-use Rattle.cycle.proofs.Unique.{belongs-unique, start-unique, cycle-unique, initial-of-unique, counter-longer-unique, timer-longer-unique, no-run-unique, elapsed-unique}
-use Rattle.report.specs.Tallying.{tallyOf}
-use Rattle.report.specs.Weighing.{weighOf}
-use Rattle.report.specs.Tracing.{callAt, numberOf, traceNumber}
+use Rattle.cycle.proofs.Unique.{belongs-unique, start-unique, cycle-unique, cycle-on-unique, initial-of-unique, counter-longer-unique, timer-longer-unique, no-run-unique, elapsed-unique}
+use Rattle.tally.specs.Tallying.{tallyOf}
+use Rattle.tally.specs.Weighing.{weighOf}
+use Rattle.trace.specs.Tracing.{callAt, numberOf, traceNumber}
 use Rattle.report.specs.Printing.{opening, printedOf, lineAfter}
-use Rattle.report.specs.declared.tallying.Tallied.{Tallied}
-use Rattle.report.specs.declared.weighing.Weighed.{Weighed}
-use Rattle.report.specs.declared.tracing.Call.{Call}
+use Rattle.tally.specs.declared.tallying.Tallied.{Tallied}
+use Rattle.tally.specs.declared.weighing.Weighed.{Weighed}
+use Rattle.trace.specs.declared.tracing.Call.{Call}
 use Rattle.report.specs.declared.printing.Standing.{Standing}
 use Rattle.report.specs.declared.printing.Printed.{Printed}
-use Rattle.report.proofs.Unique.{opening-unique, print-next-unique, tally-unique, call-at-unique, weigh-unique}
+use Rattle.trace.proofs.Unique.{call-at-unique}
+use Rattle.tally.proofs.Unique.{tally-unique, weigh-unique}
+use Rattle.report.proofs.Unique.{opening-unique, print-next-unique}
 
 -- two answers that a statement allows are equal
 abbrev pub One : {A : Type 0} → (A → Type 0) → Type 0
@@ -57,6 +61,9 @@ pub record SetsUnique : Type 0 where
   pub without : (a b : ℕ) → One (λ (r : ℕ). r ≡ minus a b)
   pub with : (s k : ℕ) → One (λ (r : ℕ). r ≡ insert s k)
   pub with-if : (s k : ℕ) (b : Bool) → One (λ (r : ℕ). r ≡ cond b (insert s k) s)
+  pub beyond : (n : ℕ) → One (λ (r : ℕ). r ≡ beyond n)
+  pub without-first : (s : ℕ) → One (λ (r : ℕ). r ≡ remove s (first s))
+  pub first : (s : ℕ) → One (λ (r : ℕ). r ≡ first s)
   pub size : (s : ℕ) → One (λ (r : ℕ). r ≡ size s)
 
 -- reader/src: chart, framing, held, numbers, reading
@@ -68,6 +75,8 @@ pub record ReaderUnique : Type 0 where
   pub chart-code : (chart : Chart) → One (λ (r : ℕ). r ≡ chartCode chart)
   pub u16-from : (bytes : List ℕ) (at : ℕ) → One (λ (r : ℕ). r ≡ leFrom 2 bytes at)
   pub u32-from : (bytes : List ℕ) (at : ℕ) → One (λ (r : ℕ). r ≡ leFrom 4 bytes at)
+  pub u64-from : (bytes : List ℕ) (at : ℕ) → One (λ (r : ℕ). r ≡ leFrom 8 bytes at)
+  pub signed : (x : ℕ) → One (λ (r : ℤ). r ≡ toZ w32 x)
   pub index-of : (x : ℕ) → One (λ (r : ℕ). (r ≡ x) × (r < 256))
   pub read-chart : (bytes : List ℕ) → One (λ (r : Reading). r ≡ readChart bytes)
 
@@ -78,25 +87,34 @@ pub record CycleUnique : Type 0 where
       → Both (λ (r : Cycled) (exit : List ℤ). (r ≡ startOf chart clock (length outputs)) × (exit ≡ outputsAfter chart r outputs))
   pub cycle : (chart : Chart) (run : Run) (clock inputs : ℕ) (outputs : List ℤ)
       → Both (λ (r : Cycled) (exit : List ℤ). (r ≡ cycleOf chart run clock inputs (length outputs)) × (exit ≡ outputsAfter chart r outputs))
+  pub cycle-on : (lent : Chart) (run : Run) (clock inputs : ℕ) (outputs : List ℤ) → One (λ (r : Cycled × List ℤ). r ≡ cycleOn lent run clock inputs outputs)
   pub initial-of : (n : ℕ) (initial : List ℕ) → One (λ (r : ℕ). r ≡ initialOf n initial)
   pub StepCounter-longer : (self : StepCounter) (e : ℕ) → One (λ (r : StepCounter). r ≡ longerCounter e self)
   pub ActionTimer-longer : (self : ActionTimer) (e : ℕ) → One (λ (r : ActionTimer). r ≡ longerTimer e self)
   pub no-run : One (λ (r : Run). r ≡ noRun)
   pub elapsed : (last new : ℕ) → One (λ (r : ℕ). r ≡ elapsed last new)
 
--- report/src: printing, tallying, tracing, weighing
+-- trace/src: tracing
+pub record TraceUnique : Type 0 where
+  pub call-at : (trace : List ℕ) (at : ℕ) → One (λ (r : Call). (r ≡ callAt trace at) × (numberOf r ≡ traceNumber trace at))
+
+-- tally/src: tallying, weighing
+pub record TallyUnique : Type 0 where
+  pub tally : (chart : Chart) (run : Run) → One (λ (r : Tallied). r ≡ tallyOf chart run)
+  pub weigh : (chart : Chart) (weights : List ℕ) → One (λ (r : Weighed). r ≡ weighOf chart weights)
+
+-- report/src: printing
 pub record ReportUnique : Type 0 where
   pub opening : One (λ (r : Standing). r ≡ opening)
   pub print-next : (code : ℕ) (chart : Chart) (trace : List ℕ) (standing : Standing) (line : List ℕ)
       → Both (λ (r : Printed) (exit : List ℕ). (r ≡ printedOf (length line) code chart trace standing) × (exit ≡ lineAfter code chart trace standing line) × (r .length ≤ length line))
-  pub tally : (chart : Chart) (run : Run) → One (λ (r : Tallied). r ≡ tallyOf chart run)
-  pub call-at : (trace : List ℕ) (at : ℕ) → One (λ (r : Call). (r ≡ callAt trace at) × (numberOf r ≡ traceNumber trace at))
-  pub weigh : (chart : Chart) (weights : List ℕ) → One (λ (r : Weighed). r ≡ weighOf chart weights)
 
 pub record Unique : Type 0 where
   pub sets : SetsUnique
   pub reader : ReaderUnique
   pub cycle : CycleUnique
+  pub trace : TraceUnique
+  pub tally : TallyUnique
   pub report : ReportUnique
 
 pub unique : Unique
@@ -111,6 +129,9 @@ unique = record {
     without = without-unique;
     with = with-unique;
     with-if = with-if-unique;
+    beyond = beyond-unique;
+    without-first = without-first-unique;
+    first = first-unique;
     size = size-unique;
   };
   reader = record {
@@ -120,6 +141,8 @@ unique = record {
     chart-code = chart-code-unique;
     u16-from = from-unique 2;
     u32-from = from-unique 4;
+    u64-from = from-unique 8;
+    signed = signed-unique;
     index-of = index-of-unique;
     read-chart = read-chart-unique;
   };
@@ -127,17 +150,17 @@ unique = record {
     belongs = λ run steps actions cases. belongs-unique steps actions cases run;
     start = λ chart clock outputs r q f g a b. start-unique chart clock r q outputs f g (a .0) (b .0) (a .1) (b .1);
     cycle = λ chart run clock inputs outputs r q f g a b. cycle-unique chart run clock inputs r q outputs f g (a .0) (b .0) (a .1) (b .1);
+    cycle-on = cycle-on-unique;
     initial-of = initial-of-unique;
     StepCounter-longer = λ self e. counter-longer-unique e self;
     ActionTimer-longer = λ self e. timer-longer-unique e self;
     no-run = no-run-unique;
     elapsed = elapsed-unique;
   };
+  trace = record { call-at = call-at-unique };
+  tally = record { tally = tally-unique; weigh = weigh-unique };
   report = record {
     opening = opening-unique;
     print-next = λ code chart trace standing line r q f g. print-next-unique code chart trace standing line f g r q;
-    tally = tally-unique;
-    call-at = call-at-unique;
-    weigh = weigh-unique;
   };
 }

@@ -19,8 +19,8 @@ use Rattle.cycle.specs.Cycling.{startOf}
 use Rattle.cycle.specs.Moving.{initialSet}
 use Rattle.cycle.specs.declared.run.Run.{Run}
 use Rattle.cycle.specs.declared.cycling.Cycled.{Cycled}
-use Rattle.report.specs.Weighing.{weight, weightIn, balanced, unbalanced, unbalancedIn, weighCode, refused, weighOf}
-use Rattle.report.specs.declared.weighing.Weighed.{Weighed}
+use Rattle.tally.specs.Weighing.{weight, weightIn, balanced, unbalanced, unbalancedIn, weighCode, refused, weighOf}
+use Rattle.tally.specs.declared.weighing.Weighed.{Weighed}
 use Rattle.claims.specs.Fair.{Fair, fair, begins}
 use Rattle.claims.specs.Moves.{among}
 use Rattle.claims.specs.Runs.{Call, answer, after, begun, one}

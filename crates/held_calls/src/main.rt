@@ -21,25 +21,8 @@ fn byte_from(image: &[u8], at: usize) -> u8 {
     if at < image.len() { image[at] } else { 0 }
 }
 
-fn u64_from(image: &[u8], at: usize) -> u64
-    requires { ⌜ at ≤ 131072 ⌝ }
-{
-    numbers::u32_from(image, at) as u64 + 4294967296 * (numbers::u32_from(image, at + 4) as u64)
-}
-
-fn count_from(image: &[u8], at: usize) -> usize
-    requires { ⌜ at ≤ 65536 ⌝ }
-{
-    u64_from(image, at) as usize
-}
-
-// The 32 bits read as a signed number. A cast may not lose the top bit, so the upper half goes by its complement.
-fn signed(x: u32) -> i32 {
-    if x < 2147483648 {
-        return x as i32;
-    }
-    let y = 4294967295 - x;
-    !(y as i32)
+fn count_from(image: &[u8], at: usize) -> usize {
+    numbers::u64_from(image, at) as usize
 }
 
 fn bytes32(image: &[u8], at: usize) -> [u8; 32]
@@ -84,7 +67,7 @@ fn values32(image: &[u8], at: usize) -> [i32; 32]
     let mut out = [0i32; 32];
     let mut k = 0;
     while k < 32 {
-        out[k] = signed(numbers::u32_from(image, at + 4 * k));
+        out[k] = numbers::signed(numbers::u32_from(image, at + 4 * k));
         k += 1;
     }
     out
@@ -120,7 +103,7 @@ fn sets64(image: &[u8], at: usize) -> [u64; 64]
     let mut out = [0u64; 64];
     let mut k = 0;
     while k < 64 {
-        out[k] = u64_from(image, at + 8 * k);
+        out[k] = numbers::u64_from(image, at + 8 * k);
         k += 1;
     }
     out
@@ -178,14 +161,14 @@ fn chart_of(image: &[u8]) -> Chart {
 fn run_of(image: &[u8]) -> Run {
     Run {
         clock: numbers::u32_from(image, 4552),
-        active: u64_from(image, 4556),
-        activity: u64_from(image, 4564),
-        stored: u64_from(image, 4572),
-        latched: u64_from(image, 4580),
+        active: numbers::u64_from(image, 4556),
+        activity: numbers::u64_from(image, 4564),
+        stored: numbers::u64_from(image, 4572),
+        latched: numbers::u64_from(image, 4580),
         counters: counters(image, 4588),
         timers: timers(image, 4844),
-        good: u64_from(image, 4972),
-        bad: u64_from(image, 4980),
+        good: numbers::u64_from(image, 4972),
+        bad: numbers::u64_from(image, 4980),
     }
 }
 
@@ -196,7 +179,7 @@ fn lent() -> [i32; 256]
     let mut out = [0i32; 256];
     let mut k = 0;
     while k < 256 {
-        out[k] = signed(1000 + k as u32);
+        out[k] = numbers::signed(1000 + k as u32);
         k += 1;
     }
     out
@@ -333,7 +316,7 @@ fn cycle(image: &[u8], line: &mut [u8]) -> usize {
 }
 
 fn tally(image: &[u8], line: &mut [u8]) -> usize {
-    let t = report::tally(chart_of(image), run_of(image));
+    let t = tally::tally(chart_of(image), run_of(image));
     let code = put_number(line, 0, t.code as u64);
     let passed = put_number(line, code, t.passed as u64);
     let failed = put_number(line, passed, t.failed as u64);
@@ -343,7 +326,7 @@ fn tally(image: &[u8], line: &mut [u8]) -> usize {
 fn weigh(image: &[u8], tail: &[u8], line: &mut [u8]) -> usize {
     let weights = weights_of(tail);
     let n = numbers::index_of(byte_from(image, 4998));
-    let w = report::weigh(chart_of(image), &weights[..n]);
+    let w = tally::weigh(chart_of(image), &weights[..n]);
     let code = put_number(line, 0, w.code as u64);
     let transition = put_number(line, code, w.transition as u64);
     put_number(line, transition, w.total as u64)

@@ -5,25 +5,9 @@ use mathlib.Core.Path.{_≡_}
 use lib.ListN.{length}
 use Rattle.sets.proofs.Unique.{one-answer}
 use Rattle.reader.specs.declared.chart.Chart.{Chart}
-use Rattle.cycle.specs.declared.run.Run.{Run}
-use Rattle.report.specs.Tallying.{tallyOf}
-use Rattle.report.specs.Weighing.{weighOf}
-use Rattle.report.specs.Tracing.{callAt, numberOf, traceNumber}
 use Rattle.report.specs.Printing.{opening, printedOf, lineAfter}
-use Rattle.report.specs.declared.tallying.Tallied.{Tallied}
-use Rattle.report.specs.declared.weighing.Weighed.{Weighed}
-use Rattle.report.specs.declared.tracing.Call.{Call}
 use Rattle.report.specs.declared.printing.Standing.{Standing}
 use Rattle.report.specs.declared.printing.Printed.{Printed}
-
-pub tally-unique : (c : Chart) (run : Run) (r q : Tallied) → r ≡ tallyOf c run → q ≡ tallyOf c run → r ≡ q
-tally-unique c run r q = one-answer
-
-pub weigh-unique : (c : Chart) (weights : List ℕ) (r q : Weighed) → r ≡ weighOf c weights → q ≡ weighOf c weights → r ≡ q
-weigh-unique c weights r q = one-answer
-
-pub call-at-unique : (s : List ℕ) (at : ℕ) (r q : Call) → (r ≡ callAt s at) × (numberOf r ≡ traceNumber s at) → (q ≡ callAt s at) × (numberOf q ≡ traceNumber s at) → r ≡ q
-call-at-unique s at r q e f = one-answer (e .0) (f .0)
 
 pub opening-unique : (r q : Standing) → r ≡ opening → q ≡ opening → r ≡ q
 opening-unique r q = one-answer

@@ -1,5 +1,2 @@
 pub mod Lines
 pub mod Printing
-pub mod Tallying
-pub mod Tracing
-pub mod Weighing

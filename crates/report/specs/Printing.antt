@@ -12,11 +12,11 @@ use Rattle.cycle.specs.Cycling.{startOf, cycleOf}
 use Rattle.cycle.specs.declared.run.Run.{Run}
 use Rattle.cycle.specs.declared.cycling.Cycled.{Cycled}
 use Rattle.report.specs.Lines.{over, acceptedLine, refusedLine, chartLine, traceLine, tallyLine}
-use Rattle.report.specs.Tallying.{tallyOf}
-use Rattle.report.specs.Tracing.{callAt}
-use Rattle.report.specs.declared.tallying.Tallied.{Tallied}
-use Rattle.report.specs.declared.tracing.Call.{Call}
-use Rattle.report.specs.declared.tracing.Call.the-variants.{Start, Cycle, End, Refused}
+use Rattle.tally.specs.Tallying.{tallyOf}
+use Rattle.trace.specs.Tracing.{callAt}
+use Rattle.tally.specs.declared.tallying.Tallied.{Tallied}
+use Rattle.trace.specs.declared.tracing.Call.{Call}
+use Rattle.trace.specs.declared.tracing.Call.the-variants.{Start, Cycle, End, Refused}
 use Rattle.report.specs.declared.printing.Standing.{Standing}
 use Rattle.report.specs.declared.printing.Printed.{Printed}
 

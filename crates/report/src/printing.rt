@@ -3,17 +3,15 @@ ghost use Prim.Native.Nat.{_≤_};
 ghost use mathlib.Core.Path.{_≡_};
 ghost use lib.ListN.{length};
 ghost use Rattle.report.specs.Lines.{Put};
-ghost use Rattle.report.specs.Tracing.{callAt};
+ghost use Rattle.trace.specs.Tracing.{callAt};
 ghost use Rattle.report.specs.Printing.{callLine, closingLine, numberAt, opening, unmoved, stepped, Prints, lineFor, standingFor, printedOf, lineAfter};
 use crate::lines;
 use crate::lines::LINE;
-use crate::tallying;
-use crate::tallying::Tallied;
-use crate::tracing;
-use crate::tracing::Call;
 use cycle::Run;
 use cycle::no_run;
 use reader::Chart;
+use tally::Tallied;
+use trace::Call;
 
 // The place of the next record and the run that it is given; done once the last line is out.
 pub struct Standing {
@@ -97,7 +95,7 @@ fn print_call(chart: Chart, trace: &[u8], at: usize, run: Run, line: &mut [u8]) 
     let number = number_at(at);
     let mut room = [0i32; 32];
     let outputs: &mut [i32] = &mut room;
-    let call = tracing::call_at(trace, at);
+    let call = trace::call_at(trace, at);
     match call {
         Call::Start { clock } => {
             let o = cycle::start(chart, clock, outputs);
@@ -112,7 +110,7 @@ fn print_call(chart: Chart, trace: &[u8], at: usize, run: Run, line: &mut [u8]) 
             stepped(length, false, at + 12, next)
         }
         Call::End => {
-            let length = closing_line(line, number, tallying::tally(chart, run));
+            let length = closing_line(line, number, tally::tally(chart, run));
             stepped(length, true, at, run)
         }
         Call::Refused => {

@@ -17,12 +17,12 @@ use Rattle.cycle.specs.Run.{noRun}
 use Rattle.cycle.specs.Cycling.{startOf, cycleOf}
 use Rattle.cycle.specs.declared.run.Run.{Run}
 use Rattle.report.specs.Lines.{chartLine}
-use Rattle.report.specs.Tracing.{bodyDue, recordFits, callAt}
+use Rattle.trace.specs.Tracing.{bodyDue, recordFits, callAt}
 use Rattle.report.specs.Printing.{lineOf, printedAt, printedFrom, printedRun}
-use Rattle.report.specs.declared.tracing.Call.{Call}
-use Rattle.report.specs.declared.tracing.Call.the-variants.{Start, Cycle, End, Refused}
+use Rattle.trace.specs.declared.tracing.Call.{Call}
+use Rattle.trace.specs.declared.tracing.Call.the-variants.{Start, Cycle, End, Refused}
 use Rattle.report.proofs.printing.Laws.{one-printed}
-use Rattle.report.proofs.tracing.Laws.{due, after-start, after-cycle}
+use Rattle.trace.proofs.tracing.Laws.{due, after-start, after-cycle}
 
 -- a number that lies in the front is read from there
 le-take : (w m at : ℕ) (s : List ℕ) → at + w ≤ m → le w (take m s) at ≡ le w s at

@@ -3,7 +3,7 @@ use mathlib.Core.Path.{refl, sym, _∙_}
 use denote.Ref.{now}
 use native.Mathlib.Omega.{arith}
 use borrow.Author.Needs.{needs}
-use Rattle.report.proofs.tracing.Laws.{start-there, cycle-there}
+use Rattle.trace.proofs.tracing.Laws.{start-there, cycle-there}
 use Rattle.report.proofs.printing.Laws.{start-prints, cycle-prints, tally-prints, trace-prints}
 use Rattle.report.proofs.printing.print_call.Statement.{statement}
 use Rattle.report.proofs.printing.print_call.Tie as tie

@@ -1,0 +1,101 @@
+-- The tests in their order; a sound chart has 64 steps and 64 transitions at most.
+use mathlib.Core.Path.{_≡_, sym, _∙_}
+use Prim.Native.Nat.{_≤_}
+use native.Mathlib.Omega.{arith}
+use lib.ListN.{length}
+use denote.Ref.{now}
+use borrow.Author.Needs.{needs}
+use Rattle.reader.specs.Held.{chartCode}
+use Rattle.reader.proofs.held.Sound.{Sound, sound}
+use Rattle.tally.specs.Weighing.{unbalancedIn}
+use Rattle.tally.proofs.weighing.Laws.{chart-refused, weights-refused, balance-refused, accepted, initial-whole}
+use Rattle.tally.proofs.weighing.weigh.Statement.{statement}
+use Rattle.tally.proofs.weighing.weigh.Tie as tie
+
+-- what passed, seen from a later place
+chart-zero : (c : tie.Else1) → chartCode (c .before .before .before .args .t1) ≡ 0
+chart-zero c = sym (c .before .chart-code .ensures) ∙ c .if1 .left
+
+abbrev call : tie.Else2 → tie.Start
+call c = c .before .before .before .before
+
+chart-sound : (c : tie.Else2) → Sound (call c .args .t1)
+chart-sound c = sound (call c .args .t1) (chart-zero (c .before))
+
+as-many : (c : tie.Else2) → length (now (call c .args .weights)) ≡ call c .args .t1 .steps
+as-many c = c .if2 .left
+
+few : (c : tie.Else2) → length (now (call c .args .weights)) ≤ 64
+few c = let e = as-many c in let h = chart-sound c .limits .steps in omega (arith, e, h)
+
+abbrev passed : tie.Else3 → tie.Else2
+passed c = c .before .before .before .before .before
+
+none-unbalanced : (c : tie.Else3) → unbalancedIn (call (passed c) .args .t1) (now (call (passed c) .args .weights)) ≡ 0
+none-unbalanced c = sym (c .before .unbalanced .ensures) ∙ c .if3 .left
+
+chart-code-requires : tie.Need-chart-code-requires
+chart-code-requires c κs = search needs
+
+refused-requires : tie.Need-refused-requires
+refused-requires c κs = search needs
+
+returns : tie.Need-returns
+returns c =
+    let a = c .before .before .before .before .args in
+    chart-refused (a .t1) (now (a .weights)) (c .refused .result) _ (c .before .before .chart-code .ensures) (c .before .if1 .taken) (c .refused .ensures)
+
+refused-requires-2 : tie.Need-refused-requires-2
+refused-requires-2 c κs = search needs
+
+returns-2 : tie.Need-returns-2
+returns-2 c =
+    let held = c .before .before in
+    let a = held .before .before .before .args in
+    weights-refused (a .t1) (now (a .weights)) (c .refused2 .result) (chart-zero held) (c .before .if2 .taken) (c .refused2 .ensures)
+
+unbalanced-requires : tie.Need-unbalanced-requires
+unbalanced-requires c κs = let begun = c .before .before .before in (chart-sound begun .limits .transitions, few begun)
+
+sub-refused : tie.Need-sub-refused
+sub-refused c = search needs
+
+refused-requires-3 : tie.Need-refused-requires-3
+refused-requires-3 c κs = search needs
+
+returns-3 : tie.Need-returns-3
+returns-3 c =
+    let begun = c .before .before .before .before .before .before in
+    let a = call begun .args in
+    balance-refused (a .t1) (now (a .weights)) (c .refused3 .result) _ (chart-zero (begun .before)) (as-many begun) (c .before .before .unbalanced .ensures) (c .before .if3 .taken) (c .refused3 .ensures)
+
+initial-of-requires : tie.Need-initial-of-requires
+initial-of-requires c κs = search needs
+
+weight-in-requires : tie.Need-weight-in-requires
+weight-in-requires c κs = few (passed (c .before .before .before))
+
+returns-4 : tie.Need-returns-4
+returns-4 c =
+    let balanced = c .before .before .before .before in
+    let begun = passed balanced in
+    let a = call begun .args in
+    accepted (a .t1) (now (a .weights)) _ (chart-zero (begun .before)) (as-many begun) (none-unbalanced balanced)
+    (rw (c .weight-in .ensures, c .before .initial-of .ensures, initial-whole _ (a .t1 .initial) (chart-sound begun .limits .steps)))
+
+pub weigh-spec : {M : Type 1} → statement M
+weigh-spec =
+    tie.close
+    (tie.spec
+    chart-code-requires
+    refused-requires
+    returns
+    refused-requires-2
+    returns-2
+    unbalanced-requires
+    sub-refused
+    refused-requires-3
+    returns-3
+    initial-of-requires
+    weight-in-requires
+    returns-4)

@@ -1,0 +1,9 @@
+// What the assessor signs: the tally and the weighing (document 01, "Tally").
+pub mod codes;
+pub mod tallying;
+pub mod weighing;
+
+pub use tallying::Tallied;
+pub use tallying::tally;
+pub use weighing::Weighed;
+pub use weighing::weigh;
