@@ -400,38 +400,62 @@ unsigned cycle(const struct chart *c, struct run *r, uint32_t clock, uint32_t in
 	return ACCEPTED;
 }
 
-static uint8_t *put(uint8_t *at, const void *from, size_t size)
+/* The parts of an image in their order, each handed to `part` with its place. */
+static void image_parts(uint8_t *image, struct run *r, int32_t *outputs, void (*part)(uint8_t *at, void *held, size_t size))
 {
-	memcpy(at, from, size);
-	return at + size;
+	struct { void *held; size_t size; } parts[] = {
+		{ &r->clock, 4 }, { &r->active, 8 }, { &r->activity, 8 }, { &r->stored, 8 }, { &r->latched, 8 }, { &r->good, 8 }, { &r->bad, 8 },
+		{ r->counters, sizeof r->counters }, { r->timers, sizeof r->timers }, { outputs, OUTPUTS * sizeof *outputs },
+	};
+	for (size_t i = 0; i < sizeof parts / sizeof *parts; image += parts[i++].size)
+		part(image, parts[i].held, parts[i].size);
 }
 
-uint64_t c_cycles(const uint8_t *bytes, size_t size, const uint32_t *clocks, size_t nclocks, const uint32_t *inputs, size_t ninputs,
-	uint32_t n, uint8_t *image, size_t room)
+static void to_image(uint8_t *at, void *held, size_t size)
+{
+	memcpy(at, held, size);
+}
+
+static void from_image(uint8_t *at, void *held, size_t size)
+{
+	memcpy(held, at, size);
+}
+
+uint64_t c_start(const uint8_t *bytes, size_t size, uint32_t clock, uint8_t *image, size_t room)
 {
 	struct chart c;
 	struct run r;
 	int32_t outputs[OUTPUTS] = { 0 };
-	uint64_t accepted = 0, taken;
 	size_t place;
-	if (nclocks == 0 || ninputs == 0 || room < IMAGE)
+	if (room < IMAGE)
 		return REFUSED;
 	unsigned code = read_chart(bytes, size, &c, &place);
 	if (code)
 		return REFUSED + code;
-	start(&c, clocks[0], outputs, OUTPUTS, &r);
-	for (uint32_t i = 0; i < n; i++)
+	code = start(&c, clock, outputs, OUTPUTS, &r);
+	image_parts(image, &r, outputs, to_image);
+	return code;
+}
+
+uint64_t c_cycles(const uint8_t *bytes, size_t size, const uint32_t *clocks, size_t nclocks, const uint32_t *inputs, size_t ninputs,
+	const uint32_t *waits, size_t nwaits, uint32_t n, uint8_t *image, size_t room)
+{
+	struct chart c;
+	struct run r;
+	int32_t outputs[OUTPUTS];
+	uint64_t accepted = 0, taken;
+	size_t place;
+	if (nclocks == 0 || ninputs == 0 || nwaits == 0 || room < IMAGE)
+		return REFUSED;
+	unsigned code = read_chart(bytes, size, &c, &place);
+	if (code)
+		return REFUSED + code;
+	image_parts(image, &r, outputs, from_image);
+	for (uint32_t i = 0; i < n; i++) {
+		c.wait[0] = waits[i % nwaits];
 		accepted += cycle(&c, &r, clocks[i % nclocks], inputs[i % ninputs], outputs, OUTPUTS, &taken) == ACCEPTED;
-	image = put(image, &r.clock, 4);
-	image = put(image, &r.active, 8);
-	image = put(image, &r.activity, 8);
-	image = put(image, &r.stored, 8);
-	image = put(image, &r.latched, 8);
-	image = put(image, &r.good, 8);
-	image = put(image, &r.bad, 8);
-	image = put(image, r.counters, sizeof r.counters);
-	image = put(image, r.timers, sizeof r.timers);
-	put(image, outputs, sizeof outputs);
+	}
+	image_parts(image, &r, outputs, to_image);
 	return accepted;
 }
 

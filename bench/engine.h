@@ -41,14 +41,16 @@ unsigned chart_code(const struct chart *chart);
 unsigned start(const struct chart *chart, uint32_t clock, int32_t *outputs, size_t lent, struct run *run);
 unsigned cycle(const struct chart *chart, struct run *run, uint32_t clock, uint32_t inputs, int32_t *outputs, size_t lent, uint64_t *taken);
 
-/* What the static library of crates/engine exports, and the same over the engine above. */
+/* What the static library of crates/engine exports, and the same over the engine above. An image is a run with its outputs. */
 #define REFUSED (UINT64_C(1) << 32)
+uint64_t tolwaziho_start(const uint8_t *chart, size_t size, uint32_t clock, uint8_t *image, size_t room);
 uint64_t tolwaziho_cycles(const uint8_t *chart, size_t size, const uint32_t *clocks, size_t nclocks, const uint32_t *inputs, size_t ninputs,
-	uint32_t n, uint8_t *image, size_t room);
+	const uint32_t *waits, size_t nwaits, uint32_t n, uint8_t *image, size_t room);
 uint64_t tolwaziho_reads(const uint8_t *chart, size_t size, uint32_t n);
 uint64_t tolwaziho_tests(const uint8_t *chart, size_t size, uint32_t n);
+uint64_t c_start(const uint8_t *chart, size_t size, uint32_t clock, uint8_t *image, size_t room);
 uint64_t c_cycles(const uint8_t *chart, size_t size, const uint32_t *clocks, size_t nclocks, const uint32_t *inputs, size_t ninputs,
-	uint32_t n, uint8_t *image, size_t room);
+	const uint32_t *waits, size_t nwaits, uint32_t n, uint8_t *image, size_t room);
 uint64_t c_reads(const uint8_t *chart, size_t size, uint32_t n);
 uint64_t c_tests(const uint8_t *chart, size_t size, uint32_t n);
 

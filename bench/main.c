@@ -1,6 +1,7 @@
 /* Runs the proved engine and the plain C one on the same charts and inputs.
 
      bench compare SEED COUNT               COUNT random charts, good and damaged: every answer and every image equal, or exit 1
+     bench soak    SEED CHARTS N            N thousand cycles on each of CHARTS charts, images compared after each thousand: equal, or exit 1
      bench cycles  CHART ENGINE SEED N      N cycles of small, typical or full on the engine proved, c or both (both: exit 1 if they differ)
      bench reads   CHART ENGINE SEED N      N readings of the chart's bytes
      bench tests   CHART ENGINE SEED N      N tests of the held chart
@@ -198,18 +199,22 @@ static void random_chart(struct file *f)
 }
 
 enum { ROOM = 4096 };
-static uint32_t clocks[ROOM], inputs[ROOM];
+static uint32_t clocks[ROOM], inputs[ROOM], waits[ROOM];
 
-/* Clocks that go on by up to 50 ms, now and then by more than a cycle may if `jumps`. */
-static void some_inputs(int jumps)
+/* Clocks that go on from `last` by up to 50 ms, and waits that fit; with `jumps` now and then clocks that go back or on by up to two minutes,
+   and waits that are too long, so that cycles in the middle are refused. */
+static void some_inputs(uint32_t last, int jumps)
 {
-	uint32_t now = (uint32_t)any_word();
 	for (size_t i = 0; i < ROOM; i++) {
-		clocks[i] = now;
+		clocks[i] = last + any(50);
+		if (jumps && any(10) == 0)
+			clocks[i] = last + any(any(2) ? LATEST + 2 : 2 * LATEST) - any(any(4) ? 1 : 100);
+		if (clocks[i] - last <= LATEST)
+			last = clocks[i];
 		inputs[i] = (uint32_t)any_word();
-		now += jumps && any(20) == 0 ? any(70000) : any(50);
-		if (jumps && any(40) == 0)
-			now -= any(1000);
+		waits[i] = any(2) ? 0 : any(60);
+		if (jumps && any(50) == 0)
+			waits[i] = LONGEST - 1 + any(3);
 	}
 }
 
@@ -233,11 +238,28 @@ struct answer {
 	uint8_t image[IMAGE + 4];
 };
 
-static uint64_t number_of(const char *what, int proved, const struct file *f, uint32_t n, struct answer *a)
+static uint64_t start_of(int proved, const struct file *f, uint32_t clock, struct answer *a)
 {
 	memset(a->image, 165, sizeof a->image);
-	if (!strcmp(what, "cycles"))
-		return (proved ? tolwaziho_cycles : c_cycles)(f->bytes, f->size, clocks, ROOM, inputs, ROOM, n, a->image, sizeof a->image);
+	return (proved ? tolwaziho_start : c_start)(f->bytes, f->size, clock, a->image, sizeof a->image);
+}
+
+static uint64_t cycles_of(int proved, const struct file *f, uint32_t n, struct answer *a)
+{
+	return (proved ? tolwaziho_cycles : c_cycles)(f->bytes, f->size, clocks, ROOM, inputs, ROOM, waits, ROOM, n, a->image, sizeof a->image);
+}
+
+/* Where the image is altered between a start and its cycles, and how. */
+static size_t altered_at;
+static uint8_t altered_by;
+
+static uint64_t number_of(const char *what, int proved, const struct file *f, uint32_t n, struct answer *a)
+{
+	if (!strcmp(what, "cycles")) {
+		uint64_t refused = start_of(proved, f, clocks[0], a);
+		a->image[altered_at] ^= altered_by;
+		return refused ? refused : cycles_of(proved, f, n, a);
+	}
 	if (!strcmp(what, "reads"))
 		return (proved ? tolwaziho_reads : c_reads)(f->bytes, f->size, n);
 	if (!strcmp(what, "tests"))
@@ -254,17 +276,22 @@ static void show(const char *engine, const struct answer *a)
 	printf("\n");
 }
 
+static int equal(const char *what, const struct answer *proved, const struct answer *c)
+{
+	if (proved->number == c->number && !memcmp(proved->image, c->image, sizeof c->image))
+		return 1;
+	printf("%s differ\n", what);
+	show("proved", proved);
+	show("c     ", c);
+	return 0;
+}
+
 static int same(const char *what, const struct file *f, uint32_t n)
 {
 	static struct answer proved, c;
 	proved.number = number_of(what, 1, f, n, &proved);
 	c.number = number_of(what, 0, f, n, &c);
-	if (proved.number == c.number && !memcmp(proved.image, c.image, sizeof c.image))
-		return 1;
-	printf("%s differ, n = %u\n", what, n);
-	show("proved", &proved);
-	show("c     ", &c);
-	return 0;
+	return equal(what, &proved, &c);
 }
 
 static int compare(uint32_t count)
@@ -275,7 +302,9 @@ static int compare(uint32_t count)
 		f.size = 0;
 		random_chart(&f);
 		if (k % 50 == 0)
-			some_inputs(1);
+			some_inputs((uint32_t)any_word(), 1);
+		altered_at = any(IMAGE);
+		altered_by = any(8) ? 0 : (uint8_t)(1u << any(8));
 		if (!same("cycles", &f, any(60)) || !same("reads", &f, 1 + any(2)) || !same("tests", &f, any(3))) {
 			printf("chart %u\n", k);
 			return 1;
@@ -283,6 +312,45 @@ static int compare(uint32_t count)
 		accepted += tolwaziho_reads(f.bytes, f.size, 1) == 0;
 	}
 	printf("%u charts, %u of them accepted: all answers equal\n", count, accepted);
+	return 0;
+}
+
+static uint32_t clock_in(const struct answer *a)
+{
+	return (uint32_t)a->image[0] | (uint32_t)a->image[1] << 8 | (uint32_t)a->image[2] << 16 | (uint32_t)a->image[3] << 24;
+}
+
+/* One run goes on and on; every other thousand of its cycles has jumps. */
+static int soak(uint32_t charts, uint32_t thousands)
+{
+	static struct file f;
+	static struct answer proved, c;
+	static const char *const named[] = { "small", "typical", "full" };
+	uint64_t accepted = 0;
+	for (uint32_t k = 0; k < charts; k++) {
+		if (k < 3)
+			chart_of(named[k], &f);
+		else
+			do {
+				f.size = 0;
+				random_chart(&f);
+			} while (tolwaziho_reads(f.bytes, f.size, 1) != 0);
+		uint32_t clock = (uint32_t)any_word();
+		proved.number = start_of(1, &f, clock, &proved);
+		c.number = start_of(0, &f, clock, &c);
+		for (uint32_t t = 0; t < thousands && equal("soaks", &proved, &c); t++) {
+			some_inputs(clock_in(&proved), t % 2);
+			proved.number = cycles_of(1, &f, 1000, &proved);
+			c.number = cycles_of(0, &f, 1000, &c);
+			accepted += proved.number;
+		}
+		if (!equal("soaks", &proved, &c)) {
+			printf("chart %u\n", k);
+			return 1;
+		}
+	}
+	printf("%u charts, %u thousand cycles on each, %llu accepted in all: after each thousand the same runs and outputs\n", charts, thousands,
+		(unsigned long long)accepted);
 	return 0;
 }
 
@@ -315,12 +383,16 @@ int main(int argc, char **argv)
 		state = strtoull(argv[2], NULL, 10);
 		return compare((uint32_t)strtoul(argv[3], NULL, 10));
 	}
+	if (argc == 5 && !strcmp(argv[1], "soak")) {
+		state = strtoull(argv[2], NULL, 10);
+		return soak((uint32_t)strtoul(argv[3], NULL, 10), (uint32_t)strtoul(argv[4], NULL, 10));
+	}
 	if (argc == 5 && !strcmp(argv[1], "time")) {
 		static const char *const what[] = { "cycles", "reads", "tests" };
 		uint32_t n = (uint32_t)strtoul(argv[4], NULL, 10);
 		state = strtoull(argv[3], NULL, 10);
 		chart_of(argv[2], &f);
-		some_inputs(0);
+		some_inputs((uint32_t)any_word(), 0);
 		for (int i = 0; i < 3; i++) {
 			double proved = time_of(what[i], 1, &f, n), c = time_of(what[i], 0, &f, n);
 			printf("%s %.1f %.1f %.2f\n", what[i], 1e9 * proved / n, 1e9 * c / n, proved / c);
@@ -332,7 +404,7 @@ int main(int argc, char **argv)
 		uint32_t n = (uint32_t)strtoul(argv[5], NULL, 10);
 		state = strtoull(argv[4], NULL, 10);
 		chart_of(argv[2], &f);
-		some_inputs(0);
+		some_inputs((uint32_t)any_word(), 0);
 		if (!strcmp(argv[3], "both"))
 			return !same(argv[1], &f, n);
 		a.number = number_of(argv[1], !strcmp(argv[3], "proved"), &f, n, &a);

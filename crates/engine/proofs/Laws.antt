@@ -1,7 +1,7 @@
--- One turn more of a run, and of a chart that is altered at one place.
+-- One turn more of a run, and of a chart that is altered at one place; what the answers with an image are made of.
 use Prim.Native.Nat.{ℕ, _+_, _%_, _≤_}
 use mathlib.Core.Path.{_≡_, refl, ap, _∙_}
-use mathlib.Core.Bool.{Bool, true, false, _||_}
+use mathlib.Core.Bool.{Bool, true, false, _||_, cond}
 use mathlib.Core.List.{List}
 use lib.IntN.{ℤ, pos}
 use lib.ListN.{length, getD, replicate}
@@ -13,37 +13,59 @@ use borrow.Author.Tests.{eqb-false, ltb-false, eq-eqb, ne-eqb}
 use Rattle.reader.specs.Reading.{readChart}
 use Rattle.reader.specs.declared.chart.Chart.{Chart}
 use Rattle.reader.specs.declared.reading.Reading.{Reading}
-use Rattle.cycle.specs.Cycling.{cycleOf, outputsAfter}
+use Rattle.cycle.specs.Cycling.{startOf, outputsAfter, cycleOn}
+use Rattle.cycle.specs.declared.run.Run.{Run}
 use Rattle.cycle.specs.declared.cycling.Cycled.{Cycled}
-use Rattle.engine.specs.Image.{withRun, withOutputs}
-use Rattle.engine.specs.Runs.{accepts, turn, turned, imaged, startedAt, ran, unfit, cyclesOf, altered}
+use Rattle.engine.specs.Image.{withRun, withOutputs, runFrom, outputsFrom}
+use Rattle.engine.specs.Runs.{accepts, altered, turn, turned, imaged, ran, began, unfit, ifRead}
 use Rattle.engine.specs.declared.runs.Ran.{Ran}
-
--- a cycle on what the turns before left makes the next turn
-pub turn-of : (c : Chart) (clocks inputs : List ℕ) (i : ℕ) (ran : Ran) (out next : List ℤ) (p q a : ℕ) (o : Cycled)
-    → p ≡ i % length clocks
-    → q ≡ i % length inputs
-    → o ≡ cycleOf c (ran .run) (getD clocks p 0) (getD inputs q 0) (length out)
-    → next ≡ outputsAfter c o out
-    → a ≡ accepts (o .code)
-    → (record { accepted = ran .accepted + a; run = o .run }, next) ≡ turn c clocks inputs i (ran, out)
-turn-of c clocks inputs i ran out next p q a o ep eq eo en ea = rw (en, ea, eo, ep, eq)
 
 -- the last alteration counts
 pub altered-again : (c : Chart) (x y : ℕ) → altered (altered c x) y ≡ altered c y
 altered-again c x y = rw (set-set (c .wait) 0 x y)
 
--- the start, the turns and the two parts of the image together
-pub ran-of : (c : Chart) (clocks inputs : List ℕ) (n : ℕ) (image middle last : List ℕ) (o : Cycled) (first out : List ℤ) (r : Ran)
-    → o ≡ startedAt c (getD clocks 0 0)
-    → first ≡ outputsAfter c o (replicate 32 (pos 0))
-    → (r, out) ≡ turned c (o .run) clocks inputs n first
+-- a cycle on what the turns before left makes the next turn
+pub turn-of : (c held : Chart) (clocks inputs waits : List ℕ) (i : ℕ) (ran : Ran) (out next : List ℤ) (p q w a : ℕ) (o : Cycled)
+    → ((x : ℕ) → altered held x ≡ altered c x)
+    → p ≡ i % length clocks
+    → q ≡ i % length inputs
+    → w ≡ i % length waits
+    → (o, next) ≡ cycleOn (altered held (getD waits w 0)) (ran .run) (getD clocks p 0) (getD inputs q 0) out
+    → a ≡ accepts (o .code)
+    → (record { accepted = ran .accepted + a; run = o .run }, next) ≡ turn c clocks inputs waits i (ran, out)
+turn-of c held clocks inputs waits i ran out next p q w a o same ep eq ew eo ea =
+    let cycle : Chart → Cycled × List ℤ = λ h. cycleOn h (ran .run) (getD clocks p 0) (getD inputs q 0) out in
+    let after : Cycled × List ℤ → Ran × List ℤ = λ s. (record { accepted = ran .accepted + accepts (s .0 .code); run = s .0 .run }, s .1) in
+    let counted : (record { accepted = ran .accepted + a; run = o .run }, next) ≡ after (o, next) = rw ea in
+    counted ∙ ap after (eo ∙ ap cycle (same (getD waits w 0))) ∙ rw (ep, eq, ew)
+
+-- the run and then the outputs, written over what was lent
+imaged-of : (answer : ℕ) (run : Run) (out : List ℤ) (image middle last : List ℕ)
+    → middle ≡ withRun image run
+    → last ≡ withOutputs middle out
+    → (answer, last) ≡ imaged answer run out image
+imaged-of answer run out image middle last em el = rw (el, em)
+
+pub began-of : (c : Chart) (clock : ℕ) (image middle last : List ℕ) (o : Cycled) (out : List ℤ)
+    → o ≡ startOf c clock 32
+    → out ≡ outputsAfter c o (replicate 32 (pos 0))
+    → middle ≡ withRun image (o .run)
+    → last ≡ withOutputs middle out
+    → (o .code, last) ≡ began c clock image
+began-of c clock image middle last o out eo eout em el =
+    let whole : Cycled → ℕ × List ℕ = λ s. imaged (s .code) (s .run) (outputsAfter c s (replicate 32 (pos 0))) image in
+    imaged-of (o .code) (o .run) out image middle last em el ∙ ap (λ (l : List ℤ). imaged (o .code) (o .run) l image) eout ∙ ap whole eo
+
+pub ran-of : (c : Chart) (clocks inputs waits : List ℕ) (n : ℕ) (image middle last : List ℕ) (first : Run) (room out : List ℤ) (r : Ran)
+    → room ≡ outputsFrom image
+    → first ≡ runFrom image
+    → (r, out) ≡ turned c first clocks inputs waits n room
     → middle ≡ withRun image (r .run)
     → last ≡ withOutputs middle out
-    → (r .accepted, last) ≡ ran c clocks inputs n image
-ran-of c clocks inputs n image middle last o first out r eo ef et em el =
-    let parts : (r .accepted, last) ≡ imaged (r, out) image = rw (el, em) in
-    parts ∙ ap (λ (s : Ran × List ℤ). imaged s image) et ∙ rw (ef, eo)
+    → (r .accepted, last) ≡ ran c clocks inputs waits n image
+ran-of c clocks inputs waits n image middle last first room out r eroom efirst et em el =
+    let whole : Ran × List ℤ → ℕ × List ℕ = λ s. imaged (s .0 .accepted) (s .0 .run) (s .1) image in
+    imaged-of (r .accepted) (r .run) out image middle last em el ∙ ap whole et ∙ rw (eroom, efirst)
 
 or-none : (x y : Bool) → x || y ≡ false → (x ≡ false) × (y ≡ false)
 or-none false false e = (refl, refl)
@@ -51,35 +73,32 @@ or-none false true e = let z : _≡_ {A = ℕ} 0 1 = cc in absurd (omega (arith,
 or-none true y e = let z : _≡_ {A = ℕ} 0 1 = cc in absurd (omega (arith, z))
 
 -- slices that are not unfit
-pub fit : (a b c : ℕ) → unfit a b c ≡ false → (1 ≤ a) × (1 ≤ b) × (564 ≤ c)
-fit a b c e =
-    let outer = or-none (eqb a 0 || eqb b 0) (ltb c 564) e in
-    let inner = or-none (eqb a 0) (eqb b 0) (outer .0) in
-    (pos-of-ne-zero (eqb-false a 0 (inner .0)), pos-of-ne-zero (eqb-false b 0 (inner .1)), ltb-false c 564 (outer .1))
+pub fit : (a b c d : ℕ) → unfit a b c d ≡ false → (1 ≤ a) × (1 ≤ b) × (1 ≤ c) × (564 ≤ d)
+fit a b c d e =
+    let outer = or-none (eqb a 0 || eqb b 0 || eqb c 0) (ltb d 564) e in
+    let middle = or-none (eqb a 0 || eqb b 0) (eqb c 0) (outer .0) in
+    let inner = or-none (eqb a 0) (eqb b 0) (middle .0) in
+    (pos-of-ne-zero (eqb-false a 0 (inner .0)), pos-of-ne-zero (eqb-false b 0 (inner .1)), pos-of-ne-zero (eqb-false c 0 (middle .1)), ltb-false d 564 (outer .1))
 
-module _ (chart clocks inputs : List ℕ) (n : ℕ) (image : List ℕ) where
-  -- unfit slices are refused as they are
-  pub cycles-unfit : unfit (length clocks) (length inputs) (length image) ≡ true → (4294967296, image) ≡ cyclesOf chart clocks inputs n image
-  unfolding cyclesOf
-  cycles-unfit e = rw e
+-- of an answer where the slices are unfit or the chart that is read decides
+module _ (chart image : List ℕ) (f : Chart → ℕ × List ℕ) (u : Bool) where
+  -- unfit slices leave the image
+  pub if-unfit : u ≡ true → (4294967296, image) ≡ cond u (4294967296, image) (ifRead chart image f)
+  if-unfit e = rw e
 
   -- a chart that is refused leaves the image
-  pub cycles-refused : (r : Reading) {u : Bool}
-      → u ≡ unfit (length clocks) (length inputs) (length image)
+  pub if-refused : (r : Reading)
       → u ≡ false
       → r ≡ readChart chart
       → (r .code ≡ 0 → ⊥)
-      → (4294967296 + r .code, image) ≡ cyclesOf chart clocks inputs n image
-  unfolding cyclesOf
-  cycles-refused r e f h refused = rw (← e, f, ← h, ne-eqb (r .code) 0 refused)
+      → (4294967296 + r .code, image) ≡ cond u (4294967296, image) (ifRead chart image f)
+  if-refused r e h refused = rw (e, ← h, ne-eqb (r .code) 0 refused)
 
   -- a chart that is accepted is run
-  pub cycles-run : (r : Reading) {u : Bool} (answer : ℕ × List ℕ)
-      → u ≡ unfit (length clocks) (length inputs) (length image)
+  pub if-read : (r : Reading) (answer : ℕ × List ℕ)
       → u ≡ false
       → r ≡ readChart chart
       → r .code ≡ 0
-      → answer ≡ ran (r .chart) clocks inputs n image
-      → answer ≡ cyclesOf chart clocks inputs n image
-  unfolding cyclesOf
-  cycles-run r answer e f h accepted a = a ∙ rw (← e, f, ← h, eq-eqb (r .code) 0 accepted)
+      → answer ≡ f (r .chart)
+      → answer ≡ cond u (4294967296, image) (ifRead chart image f)
+  if-read r answer e h accepted a = a ∙ rw (e, ← h, eq-eqb (r .code) 0 accepted)

@@ -4,14 +4,20 @@ use mathlib.Core.List.{List}
 use mathlib.Core.Path.{_≡_}
 use Rattle.sets.proofs.Unique.{one-answer}
 use Rattle.reader.specs.declared.chart.Chart.{Chart}
-use Rattle.engine.specs.Runs.{cyclesOf, readsOf, testsOf}
+use Rattle.engine.specs.Runs.{startsOf, cyclesOf, readsOf, testsOf}
 
 -- the number and the image together
-pub cycles-unique : (chart clocks inputs : List ℕ) (n : ℕ) (image : List ℕ) (r q : ℕ × List ℕ)
-    → r ≡ cyclesOf chart clocks inputs n image
-    → q ≡ cyclesOf chart clocks inputs n image
+pub starts-unique : (chart : List ℕ) (clock : ℕ) (image : List ℕ) (r q : ℕ × List ℕ)
+    → r ≡ startsOf chart clock image
+    → q ≡ startsOf chart clock image
     → r ≡ q
-cycles-unique chart clocks inputs n image r q = one-answer
+starts-unique chart clock image r q = one-answer
+
+pub cycles-unique : (chart clocks inputs waits : List ℕ) (n : ℕ) (image : List ℕ) (r q : ℕ × List ℕ)
+    → r ≡ cyclesOf chart clocks inputs waits n image
+    → q ≡ cyclesOf chart clocks inputs waits n image
+    → r ≡ q
+cycles-unique chart clocks inputs waits n image r q = one-answer
 
 pub reads-unique : (chart : List ℕ) (n r q : ℕ) → r ≡ readsOf chart n → q ≡ readsOf chart n → r ≡ q
 reads-unique chart n r q = one-answer

@@ -1,11 +1,12 @@
--- The image of a run: each number's bytes, the least first, written over the bytes that are lent.
+-- The image of a run with its outputs: each number's bytes, the least first, written over the bytes that are lent, and read from them.
 use Prim.Native.Nat.{ℕ, _+_, _*_, _/_, _%_}
 use mathlib.Core.List.{List}
 use lib.IntN.{ℤ, pos}
 use lib.ListN.{getD, set}
 use mir.Syntax.{w32}
-use mir.Val.{ofZ}
-use Rattle.sets.specs.Loops.{turns}
+use mir.Val.{ofZ, toZ}
+use Rattle.sets.specs.Loops.{table, turns}
+use Rattle.reader.specs.Numbers.{leFrom}
 use Rattle.cycle.specs.Run.{counter, timer}
 use Rattle.cycle.specs.declared.run.StepCounter.{StepCounter}
 use Rattle.cycle.specs.declared.run.ActionTimer.{ActionTimer}
@@ -43,3 +44,25 @@ withOutputs s outputs = turns (outputPut outputs) s 32
 
 abbrev pub withRun : List ℕ → Run → List ℕ
 withRun s r = withTimers (withCounters (withWords s r) (r .counters)) (r .timers)
+
+unfoldable pub countersFrom : List ℕ → List StepCounter
+countersFrom s = table (λ k. counter (leFrom 4 s (52 + 4 * k))) 64
+
+unfoldable pub timersFrom : List ℕ → List ActionTimer
+timersFrom s = table (λ k. timer (leFrom 4 s (308 + 4 * k))) 32
+
+unfoldable pub outputsFrom : List ℕ → List ℤ
+outputsFrom s = table (λ k. toZ w32 (leFrom 4 s (436 + 4 * k))) 32
+
+abbrev pub runFrom : List ℕ → Run
+runFrom s = record {
+  clock = leFrom 4 s 0;
+  active = leFrom 8 s 4;
+  activity = leFrom 8 s 12;
+  stored = leFrom 8 s 20;
+  latched = leFrom 8 s 28;
+  counters = countersFrom s;
+  timers = timersFrom s;
+  good = leFrom 8 s 36;
+  bad = leFrom 8 s 44;
+}

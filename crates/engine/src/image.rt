@@ -5,10 +5,11 @@ ghost use Prim.Native.Nat.{_+_, _%_, _≤_};
 ghost use lib.ListN.{length};
 ghost use mir.Syntax.{w32};
 ghost use mir.Val.{ofZ};
-ghost use Rattle.engine.specs.Image.{with4, with8, withWords, withCounters, withTimers, withOutputs, withRun};
+ghost use Rattle.engine.specs.Image.{with4, with8, withWords, withCounters, withTimers, withOutputs, withRun, countersFrom, timersFrom, outputsFrom, runFrom};
 use cycle::Run;
 use cycle::run::ActionTimer;
 use cycle::run::StepCounter;
+use reader::numbers;
 
 pub(crate) const IMAGE: usize = 564;
 
@@ -105,5 +106,57 @@ pub(crate) fn put_outputs(image: &mut [u8], outputs: &[i32])
     while k < 32 {
         put_u32(image, 436 + 4 * k, bits_of(outputs[k]));
         k += 1;
+    }
+}
+
+fn counters_from(image: &[u8]) -> [StepCounter; 64]
+    ensures { λ r. ⌜ r ≡ countersFrom (now (image .entry)) ⌝ }
+{
+    let mut out = [StepCounter(0); 64];
+    let mut k = 0;
+    while k < 64 {
+        out[k] = StepCounter(numbers::u32_from(image, 52 + 4 * k));
+        k += 1;
+    }
+    out
+}
+
+fn timers_from(image: &[u8]) -> [ActionTimer; 32]
+    ensures { λ r. ⌜ r ≡ timersFrom (now (image .entry)) ⌝ }
+{
+    let mut out = [ActionTimer(0); 32];
+    let mut k = 0;
+    while k < 32 {
+        out[k] = ActionTimer(numbers::u32_from(image, 308 + 4 * k));
+        k += 1;
+    }
+    out
+}
+
+pub(crate) fn outputs_from(image: &[u8]) -> [i32; 32]
+    ensures { λ r. ⌜ r ≡ outputsFrom (now (image .entry)) ⌝ }
+{
+    let mut out = [0i32; 32];
+    let mut k = 0;
+    while k < 32 {
+        out[k] = numbers::signed(numbers::u32_from(image, 436 + 4 * k));
+        k += 1;
+    }
+    out
+}
+
+pub(crate) fn run_from(image: &[u8]) -> Run
+    ensures { λ r. ⌜ r ≡ runFrom (now (image .entry)) ⌝ }
+{
+    Run {
+        clock: numbers::u32_from(image, 0),
+        active: numbers::u64_from(image, 4),
+        activity: numbers::u64_from(image, 12),
+        stored: numbers::u64_from(image, 20),
+        latched: numbers::u64_from(image, 28),
+        counters: counters_from(image),
+        timers: timers_from(image),
+        good: numbers::u64_from(image, 36),
+        bad: numbers::u64_from(image, 44),
     }
 }

@@ -1,7 +1,7 @@
 // The engine for programs in other languages: a chart's bytes in, the run after some cycles out. The benchmark links it (bench/).
 ghost use mathlib.Core.Path.{_≡_};
 ghost use Rattle.reader.specs.Reading.{readChart};
-ghost use Rattle.engine.specs.Runs.{unfit, cyclesOf, readsOf, testsOf};
+ghost use Rattle.engine.specs.Runs.{unfit, startsOf, cyclesOf, readsOf, testsOf};
 
 pub mod image;
 pub mod runs;
@@ -11,25 +11,18 @@ use image::IMAGE;
 // Added to a number of refusal, so that no answer is both it and a number of cycles; alone it says that the lent slices are unfit.
 const REFUSED: u64 = 4_294_967_296;
 
-fn is_unfit(clocks: usize, inputs: usize, image: usize) -> bool
-    ensures { λ r. ⌜ r ≡ unfit clocks inputs image ⌝ }
+fn is_unfit(clocks: usize, inputs: usize, waits: usize, image: usize) -> bool
+    ensures { λ r. ⌜ r ≡ unfit clocks inputs waits image ⌝ }
 {
-    (clocks == 0) | (inputs == 0) | (image < IMAGE)
+    (clocks == 0) | (inputs == 0) | (waits == 0) | (image < IMAGE)
 }
 
-// Reads the chart and starts it at the first clock, then makes n cycles, with clocks and inputs taken in turn from the two slices, again and
-// again. Answers how many were accepted; the run and the outputs are left in the image.
+// Reads the chart and starts it: 0, with the run and its outputs in the image.
 #[no_mangle]
-pub extern "C" fn tolwaziho_cycles(
-    chart: &[u8],
-    clocks: &[u32],
-    inputs: &[u32],
-    n: u32,
-    image: &mut [u8],
-) -> u64
-    ensures { λ r. ⌜ (r, now (image .exit)) ≡ cyclesOf (now (chart .entry)) (now (clocks .entry)) (now (inputs .entry)) n (now (image .entry)) ⌝ }
+pub extern "C" fn tolwaziho_start(chart: &[u8], clock: u32, image: &mut [u8]) -> u64
+    ensures { λ r. ⌜ (r, now (image .exit)) ≡ startsOf (now (chart .entry)) clock (now (image .entry)) ⌝ }
 {
-    if is_unfit(clocks.len(), inputs.len(), image.len()) {
+    if image.len() < IMAGE {
         return REFUSED;
     }
     let reading = reader::read_chart(chart);
@@ -37,7 +30,31 @@ pub extern "C" fn tolwaziho_cycles(
         return REFUSED + reading.code as u64;
     }
     let held = reading.chart;
-    runs::run_chart(held, clocks, inputs, n, image)
+    runs::start_chart(held, clock, image)
+}
+
+// Reads the chart and makes n cycles from the run in the image, with clocks, inputs and the wait of transition 0 taken in turn from the three
+// slices, again and again. Answers how many were accepted; the image has the run and the outputs that they left.
+#[no_mangle]
+pub extern "C" fn tolwaziho_cycles(
+    chart: &[u8],
+    clocks: &[u32],
+    inputs: &[u32],
+    waits: &[u32],
+    n: u32,
+    image: &mut [u8],
+) -> u64
+    ensures { λ r. ⌜ (r, now (image .exit)) ≡ cyclesOf (now (chart .entry)) (now (clocks .entry)) (now (inputs .entry)) (now (waits .entry)) n (now (image .entry)) ⌝ }
+{
+    if is_unfit(clocks.len(), inputs.len(), waits.len(), image.len()) {
+        return REFUSED;
+    }
+    let reading = reader::read_chart(chart);
+    if reading.code != 0 {
+        return REFUSED + reading.code as u64;
+    }
+    let held = reading.chart;
+    runs::run_chart(held, clocks, inputs, waits, n, image)
 }
 
 // Reads the same bytes n times: the sum of the numbers of refusal.

@@ -1,17 +1,17 @@
--- The start, the turns and the image, each as its part states.
+-- The run and the outputs that the image has, the turns and the image, each as its part states.
 use borrow.Author.Needs.{needs}
 use Rattle.engine.proofs.Laws.{ran-of}
 use Rattle.engine.proofs.runs.run_chart.Statement.{statement}
 use Rattle.engine.proofs.runs.run_chart.Tie as tie
 
+outputs-from-requires : tie.Need-outputs-from-requires
+outputs-from-requires c κs = search needs
+
+run-from-requires : tie.Need-run-from-requires
+run-from-requires c κs = search needs
+
 slice-aggregate-outputs : tie.Need-slice-aggregate-outputs
 slice-aggregate-outputs c = search needs
-
-shared-slice-read-start : tie.Need-shared-slice-read-start
-shared-slice-read-start c = search needs
-
-start-requires : tie.Need-start-requires
-start-requires c κs = search needs
 
 run-on-requires : tie.Need-run-on-requires
 run-on-requires c κs = search needs
@@ -33,18 +33,19 @@ returns c =
     let wrote = c .before .before .before .before in
     let put = wrote .before .before .before .before .before in
     let ran = put .before .before .before .before in
-    let began = ran .before .before .before .before in
-    let s = began .before .before .before .before .before .before .before in
-    ran-of (s .args .chart) (s .args .clocks .now) (s .args .inputs .now) (s .args .n) (s .args .image .now) _ _ (began .start .result) _ _ (ran .run-on .result)
-    (began .start .ensures .0) (began .start .ensures .1) (ran .run-on .ensures) (put .put-run .ensures) (wrote .put-outputs .ensures)
+    let first = ran .before .before .before in
+    let room = first .before .before in
+    let s = room .before .before .before .before .before .before in
+    ran-of (s .args .chart) (s .args .clocks .now) (s .args .inputs .now) (s .args .waits .now) (s .args .n) (s .args .image .now) _ _ (first .run-from .result)
+    (room .outputs-from .result) _ (ran .run-on .result) (room .outputs-from .ensures) (first .run-from .ensures) (ran .run-on .ensures) (put .put-run .ensures) (wrote .put-outputs .ensures)
 
 pub run-chart-spec : {M : Type 1} → statement M
 run-chart-spec =
     tie.close
     (tie.spec
+    outputs-from-requires
+    run-from-requires
     slice-aggregate-outputs
-    shared-slice-read-start
-    start-requires
     run-on-requires
     put-run-requires
     put-outputs-requires

@@ -16,14 +16,18 @@ Inv-loop n held₀ sum₀ i₀ held sum i = (sum ≡ testsOf held₀ i) × ((x :
 abbrev μ-loop : tie.MeasureT-loop
 μ-loop n held₀ sum₀ i₀ held sum i = n - i
 
+-- the turn that a call of the test is in
+abbrev turn : tie.After-held-code Inv-loop μ-loop → tie.In-loop Inv-loop μ-loop
+turn c = c .before .before .before .before .before .before .before .before .before .before .before .before .before .before .before .before
+
 loop-holds : tie.Need-loop-holds Inv-loop μ-loop
 loop-holds c = (summed-start _, λ x. refl, omega arith, omega arith)
 
 element-write-held : tie.Need-element-write-held Inv-loop μ-loop
 element-write-held c = omega arith
 
-chart-code-requires : tie.Need-chart-code-requires Inv-loop μ-loop
-chart-code-requires c κs = search needs
+held-code-requires : tie.Need-held-code-requires Inv-loop μ-loop
+held-code-requires c κs = search needs
 
 cast-sum : tie.Need-cast-sum Inv-loop μ-loop
 cast-sum c = search needs
@@ -39,8 +43,8 @@ loop-less c = omega arith
 
 loop-again : tie.Need-loop-again Inv-loop μ-loop
 loop-again c =
-    let l = c .before .before .loop in
-    let code = c .chart-code .ensures ∙ ap chartCode (l .inv .1 (l .i)) in
+    let l = turn c .before .loop in
+    let code = c .held-code .ensures ∙ ap chartCode (l .inv .1 (l .i)) in
     (summed-turn _ _ (l .inv .0) (ap (λ (n : ℕ). l .sum + n) code), λ x. altered-again (l .held) (l .i) x ∙ l .inv .1 x, omega arith, omega arith)
 
 returns : tie.Need-returns Inv-loop μ-loop
@@ -54,7 +58,7 @@ test-held-spec =
     μ-loop
     loop-holds
     element-write-held
-    chart-code-requires
+    held-code-requires
     cast-sum
     add-sum
     add-i
