@@ -8,6 +8,8 @@
 Short outputs are written out by hand. The long ones come from the plain model of start and cycle in run_cycles.py; nothing here
 gets an expected line from the engine.
 """
+import os
+import shutil
 import subprocess
 import sys
 import tempfile
@@ -138,9 +140,9 @@ def text(lines):
     return "".join(line + "\n" for line in lines).encode()
 
 
-def run(folder, trace, output=subprocess.PIPE):
-    command = [ROOT / "tools" / "run", "bench_run"]
-    return subprocess.run(command, cwd=folder, input=trace, stdout=output, stderr=subprocess.PIPE, timeout=60, check=False)
+def run(folder, trace, output=subprocess.PIPE, root=ROOT, user=None):
+    command = [root / "tools" / "run", "bench_run"]
+    return subprocess.run(command, cwd=folder, input=trace, stdout=output, stderr=subprocess.PIPE, timeout=60, check=False, user=user)
 
 
 def run_case(name, chart, trace, lines):
@@ -151,6 +153,24 @@ def run_case(name, chart, trace, lines):
     expected = text(lines)
     if done.stdout != expected or done.stderr or done.returncode != 0:
         sys.exit(f"bench_run, {name}: status {done.returncode}, printed {done.stdout[-400:]!r} {done.stderr!r}, expected {expected[-400:]!r}")
+
+
+def run_unreadable():
+    """A chart.bin that is there and that its reader may not read. Root may read every file, so there the program runs as nobody, from a copy."""
+    with tempfile.TemporaryDirectory() as folder:
+        os.chmod(folder, 0o755)
+        for part in ["tools/run", "target/bin/bench_run"]:
+            (Path(folder) / part).parent.mkdir(parents=True)
+            shutil.copy(ROOT / part, Path(folder) / part)
+        chart = Path(folder) / "chart.bin"
+        user = 65534 if os.geteuid() == 0 else None
+        for mode, expected in [(0o444, text(CASES[0][3])), (0, b"refused chart 1\n")]:
+            chart.unlink(missing_ok=True)
+            chart.write_bytes(CHART_A)
+            chart.chmod(mode)
+            done = run(folder, TRACE_A, root=Path(folder), user=user)
+            assert (done.stdout, done.returncode) == (expected, 0), (mode, done.stdout, done.stderr)
+    return 2
 
 
 def run_odd():
@@ -180,7 +200,7 @@ if __name__ == "__main__":
     if "--run" in sys.argv[1:]:
         for shown in CASES:
             run_case(*shown)
-        print(f"bench_run: {len(CASES) + run_odd()} runs")
+        print(f"bench_run: {len(CASES) + run_odd() + run_unreadable()} runs")
     else:
         store({
             "crates/bench_run/data/chart.bin": CHART_A,
