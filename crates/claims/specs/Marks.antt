@@ -6,15 +6,15 @@ use mathlib.Core.Path.{_≡_, refl, sym, ap, _∙_}
 use native.Mathlib.Nat.{add-zero}
 use native.Mathlib.Omega.{arith}
 use lib.ListN.{getD}
-use lib.Dec.{eqb, ltb, leb}
-use borrow.Author.Tests.{ltb-true, eqb-true, ne-eqb}
+use lib.Dec.{eqb, leb}
+use borrow.Author.Tests.{eqb-true, ne-eqb}
 use Rattle.sets.specs.Loops.{some, summed, counted}
 use Rattle.sets.specs.Sets.{has, union, collect}
-use Rattle.sets.proofs.Loops.{and-true, or-true, or-false, else-zero, first-zero}
+use Rattle.sets.proofs.Loops.{or-true, or-false, else-zero}
 use Rattle.sets.proofs.Members.{has-zero, has-collect}
 use Rattle.sets.proofs.Below.{has-union}
-use Rattle.reader.specs.Fields.{unless, signalExists}
-use Rattle.reader.specs.Held.{limitsFit, stepsCode, actionsCode, transitionsCode, blocksCode, casesCode, caseFitsAt, heldCode, chartCode}
+use Rattle.reader.specs.Fields.{unless}
+use Rattle.reader.specs.Held.{chartCode}
 use Rattle.reader.specs.declared.chart.Chart.{Chart}
 use Rattle.reader.proofs.held.Sound.{sound}
 use Rattle.cycle.specs.Run.{noRun}
@@ -72,35 +72,6 @@ unfolding some
 some-none p zero h = refl
 some-none p (suc n) h = rw (some-none p n h, h n)
 
--- ---- the chart's cases
-
--- a test that is not refused holds
-fits : (t : Bool) → unless t 5 ≡ 0 → t ≡ true
-fits true e = refl
-fits false e = let z : _≡_ {A = ℕ} 5 0 = e in absurd (omega arith)
-
--- a case that is not refused names a step below the number of steps
-cases-zero : (n steps actions : ℕ) (step signal expected : List ℕ) → casesCode n steps actions step signal expected ≡ 0 → (i : ℕ) → i < n → getD step i 0 < steps
-unfolding casesCode
-cases-zero n steps actions step signal expected e i l =
-    let f = fits (caseFitsAt steps actions step signal expected i) (first-zero (λ i. unless (caseFitsAt steps actions step signal expected i) 5) n e i l) in
-    let x = and-true _ (leb (getD expected i 0) 1) f in
-    let y = and-true _ (signalExists (getD signal i 0) actions) (x .0) in
-    let z = and-true (ltb (getD step i 0) steps) (ltb (getD signal i 0) 64) (y .0) in
-    ltb-true _ _ (z .0)
-
--- the cases of a chart that passed name steps that exist
-case-step : (c : Chart) → chartCode c ≡ 0 → (i : ℕ) → i < c .cases → getD (c .casestep) i 0 < c .steps
-unfolding heldCode
-case-step c e i l =
-    let a = else-zero (unless (limitsFit (c .steps) (c .actions) (c .transitions) (c .blocks) (c .cases)) 4) _ e in
-    let b = else-zero (stepsCode (c .steps) (c .initial)) _ (a .1) in
-    let d = else-zero (actionsCode (c .actions) (c .output)) _ (b .1) in
-    let f = else-zero (transitionsCode (c .transitions) (c .steps) (c .actions) (c .sources) (c .targets) (c .on) (c .off) (c .wait)) _ (d .1) in
-    let g = else-zero (blocksCode (c .blocks) (c .steps) (c .actions) (c .blockstep) (c .blockaction) (c .qualifier) (c .duration)) _ (f .1) in
-    let h = else-zero (casesCode (c .cases) (c .steps) (c .actions) (c .casestep) (c .signal) (c .expected)) _ (g .1) in
-    cases-zero (c .cases) (c .steps) (c .actions) (c .casestep) (c .signal) (c .expected) (h .0) i l
-
 -- ---- one call
 
 module _ (c : Chart) (passes : chartCode c ≡ 0) (i : ℕ) (l : i < c .cases) where
@@ -118,7 +89,7 @@ module _ (c : Chart) (passes : chartCode c ≡ 0) (i : ℕ) (l : i < c .cases) w
 
   -- both are numbers of 64-bit sets
   in-step : step < 64
-  in-step = let s = sound c passes .limits .steps in let h = case-step c passes i l in omega (arith, s, h)
+  in-step = sound c passes .casestep i l
 
   in-case : i < 64
   in-case = let s = sound c passes .limits .cases in omega (arith, s, l)

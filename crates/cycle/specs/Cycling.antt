@@ -134,11 +134,11 @@ outputsAfter c o out =
     cond (eqb (o .code) 0) (outputsOf (c .actions) (c .output) (c .value) (o .run .activity) ++ drop 32 out) out
 
 -- an answer with the outputs it leaves
-abbrev pub withOutputs : Chart → List ℤ → Cycled → Cycled × List ℤ
-withOutputs c out o = (o, outputsAfter c o out)
+abbrev pub answered : Chart → List ℤ → Cycled → Cycled × List ℤ
+answered c out o = (o, outputsAfter c o out)
 
 abbrev pub movedOn : Chart → Run → ℕ → ℕ → List ℤ → Cycled × List ℤ
-movedOn c r clock inputs out = withOutputs c out (cycled c r clock inputs)
+movedOn c r clock inputs out = answered c out (cycled c r clock inputs)
 
 abbrev pub cycleOn : Chart → Run → ℕ → ℕ → List ℤ → Cycled × List ℤ
-cycleOn c r clock inputs out = withOutputs c out (cycleOf c r clock inputs (length out))
+cycleOn c r clock inputs out = answered c out (cycleOf c r clock inputs (length out))

@@ -62,14 +62,6 @@ pub all-turn : (p : ℕ → Bool) (k : ℕ) {ok b : Bool} → ok ≡ all p k →
 unfolding all
 all-turn p k e h = rw (add-one, e, h)
 
--- the same where the loop leaves at the first that fails
-pub all-more : (p : ℕ → Bool) (k : ℕ) {b : Bool} → all p k ≡ true → b ≡ p k → b ≡ true → all p (k + 1) ≡ true
-unfolding all
-all-more p k e q h = rw (add-one, e, ← q, h)
-
-pub all-end : (p : ℕ → Bool) (n k : ℕ) → all p k ≡ true → n ≤ k → k ≤ n → true ≡ all p n
-all-end p n k e a b = sym (ap (all p) (le-antisymm a b) ∙ e)
-
 pub all-true : (p : ℕ → Bool) (n : ℕ) → all p n ≡ true → (k : ℕ) → k < n → p k ≡ true
 unfolding all
 all-true p zero h k l = absurd (omega arith)

@@ -1,10 +1,10 @@
 -- From the tests and the parts of a call to its whole answer.
 use Prim.Native.Nat.{ℕ, _≤_, _<_}
-use mathlib.Core.List.{List, _++_}
+use mathlib.Core.List.{List}
 use mathlib.Core.Bool.{Bool, true, false, cond}
 use mathlib.Core.Path.{_≡_, sym, ap, ap₂, _∙_}
 use lib.IntN.{ℤ}
-use lib.ListN.{length, drop, replicate}
+use lib.ListN.{length, replicate}
 use native.Mathlib.Nat.{lt-of-lt-of-le}
 use native.Mathlib.Omega.{arith}
 use lib.Dec.{leb, eqb}
@@ -18,10 +18,9 @@ use Rattle.reader.specs.declared.chart.Chart.{Chart}
 use Rattle.reader.proofs.held.Sound.{Sound, fits}
 use Rattle.cycle.specs.Time.{elapsed, grownCounts, grownTimes}
 use Rattle.cycle.specs.Moving.{initialSet, settledCounters, settledTimers, signalsOf}
-use Rattle.cycle.specs.Outputs.{outputsOf}
 use Rattle.cycle.specs.Choosing.{stepsOf}
 use Rattle.cycle.specs.Belongs.{belongs}
-use Rattle.cycle.specs.Cycling.{Settles, refused, cycleCode, actedOn, started, choiceOf, marksAt, cycled, outputsAfter, withOutputs, movedOn, cycleOn}
+use Rattle.cycle.specs.Cycling.{Settles, refused, cycleCode, actedOn, started, choiceOf, marksAt, cycled, outputsAfter, answered, movedOn, cycleOn}
 use Rattle.cycle.specs.declared.choosing.Choice.{Choice}
 use Rattle.cycle.specs.declared.moving.Marks.{Marks}
 use Rattle.cycle.specs.declared.acting.Steps.{Steps}
@@ -70,10 +69,10 @@ pub accepted-by : (code : ℕ) (x y r : Cycled) → 0 ≡ code → r ≡ x → r
 accepted-by code x y r e h = h ∙ rw (← e)
 
 -- what a call's answer and its outputs are, together and apart
-pub together : (c : Chart) (x r : Cycled) (out after : List ℤ) → r ≡ x → after ≡ outputsAfter c r out → _≡_ {A = Cycled × List ℤ} (r, after) (withOutputs c out x)
+pub together : (c : Chart) (x r : Cycled) (out after : List ℤ) → r ≡ x → after ≡ outputsAfter c r out → _≡_ {A = Cycled × List ℤ} (r, after) (answered c out x)
 together c x r out after e f = ap₂ {C = Cycled × List ℤ} (λ (o : Cycled) (l : List ℤ). (o, l)) e (f ∙ ap (λ (o : Cycled). outputsAfter c o out) e)
 
-pub apart : (c : Chart) (x r : Cycled) (out after : List ℤ) → _≡_ {A = Cycled × List ℤ} (r, after) (withOutputs c out x) → (r ≡ x) × (after ≡ outputsAfter c r out)
+pub apart : (c : Chart) (x r : Cycled) (out after : List ℤ) → _≡_ {A = Cycled × List ℤ} (r, after) (answered c out x) → (r ≡ x) × (after ≡ outputsAfter c r out)
 apart c x r out after e =
     let f : r ≡ x = ap (λ (p : Cycled × List ℤ). p .0) e in
     (f, ap (λ (p : Cycled × List ℤ). p .1) e ∙ ap (λ (o : Cycled). outputsAfter c o out) (sym f))

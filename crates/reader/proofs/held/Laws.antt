@@ -3,33 +3,34 @@ use Prim.Native.Nat.{ℕ, _+_, _≤_, _<_}
 use mathlib.Core.List.{List}
 use mathlib.Core.Bool.{Bool, true, false, _&&_, _||_}
 use mathlib.Core.Path.{_≡_, refl, sym, ap, ap₂, _∙_}
-use native.Mathlib.Nat.{le-antisymm}
 use native.Mathlib.Omega.{arith}
 use lib.ListN.{length, getD, set, replicate, length-set, length-replicate, getD-replicate}
 use lib.Seq.{getD-set-same, getD-set-other}
 use lib.Dec.{leb, ltb, eqb}
 use borrow.Author.Tests.{leb-true, lt-ltb, ltb-true, eqb-true, eqb-false}
 use Rattle.sets.specs.Loops.{all, some, firstCode}
-use Rattle.sets.proofs.Loops.{first-by-test, and-true, some-start, some-turn, all-both, or-false, or-true, and-yes, and-no}
+use Rattle.sets.proofs.Loops.{first-by-test, and-true, some-start, some-turn, all-both, all-done, or-false, or-true, and-yes, and-no}
 use Rattle.reader.specs.Fields.{timed, unless}
 use Rattle.reader.specs.Held.{limitsFit, blockNamesAt, durationFitsAt, untimedFitsAt, blockFitsAt, blocksCode, caseFitsAt, timedFor, timedAgain}
 use Rattle.reader.proofs.fields.Laws.{timing-fits, timing-timed}
 
+test-code : (p : ℕ → Bool) (n : ℕ) {fit : Bool} → fit ≡ all p n → unless fit 5 ≡ firstCode (λ k. unless (p k) 5) n
+test-code p n e = ap (λ (x : Bool). unless x 5) e ∙ sym (first-by-test 5 p n (λ z. omega arith))
+
 pub column-end : (p : ℕ → Bool) (n i : ℕ) {fit : Bool} {r : ℕ} → r ≡ unless fit 5 → fit ≡ all p i → n ≤ i → i ≤ n → r ≡ firstCode (λ k. unless (p k) 5) n
-column-end p n i e f a b =
-    e ∙ ap (λ (x : Bool). unless x 5) (f ∙ ap (all p) (le-antisymm b a)) ∙ sym (first-by-test 5 p n (λ z. omega arith))
+column-end p n i e f a b = e ∙ test-code p n (all-done p i f a b)
 
 -- ---- the tests of bytes as bytes
 
-pub names-fit : (s a : ℕ) (bs ba q : List ℕ) (i : ℕ) → ltb (getD bs i 0) s && ltb (getD ba i 0) a && leb (getD q i 0) 10 ≡ blockNamesAt s a bs ba q i
-names-fit s a bs ba q i = ap (λ (x : Bool). ltb (getD bs i 0) s && ltb (getD ba i 0) a && x) (timing-fits (getD q i 0))
+pub names-bytes : (s a : ℕ) (bs ba q : List ℕ) (i : ℕ) → ltb (getD bs i 0) s && ltb (getD ba i 0) a && leb (getD q i 0) 10 ≡ blockNamesAt s a bs ba q i
+names-bytes s a bs ba q i = ap (λ (x : Bool). ltb (getD bs i 0) s && ltb (getD ba i 0) a && x) (timing-fits (getD q i 0))
 
 pub untimed-fits : (q d : List ℕ) (i : ℕ) {t : Bool} → t ≡ timed (getD q i 0) → t || eqb (getD d i 0) 0 ≡ untimedFitsAt q d i
 untimed-fits q d i e = ap (λ (x : Bool). x || eqb (getD d i 0) 0) (e ∙ sym (timing-timed (getD q i 0)))
 
 -- every signal that exists is below 64
-pub case-fits : (s a : ℕ) (cs sg ex : List ℕ) (i : ℕ) → a ≤ 32 → ltb (getD cs i 0) s && ltb (getD sg i 0) (32 + a) && leb (getD ex i 0) 1 ≡ caseFitsAt s a cs sg ex i
-case-fits s a cs sg ex i h = ap (λ (x : Bool). x && leb (getD ex i 0) 1) (go (ltb (getD cs i 0) s) (getD sg i 0) _ refl)
+pub case-bytes : (s a : ℕ) (cs sg ex : List ℕ) (i : ℕ) → a ≤ 32 → ltb (getD cs i 0) s && ltb (getD sg i 0) (32 + a) && leb (getD ex i 0) 1 ≡ caseFitsAt s a cs sg ex i
+case-bytes s a cs sg ex i h = ap (λ (x : Bool). x && leb (getD ex i 0) 1) (go (ltb (getD cs i 0) s) (getD sg i 0) _ refl)
   where
     go : (x : Bool) (k : ℕ) (b : Bool) → ltb k (32 + a) ≡ b → x && b ≡ x && ltb k 64 && b
     go x k true e = rw (lt-ltb k 64 (omega (arith, ltb-true k (32 + a) e))) (and-yes (x && true))
@@ -40,8 +41,8 @@ pub columns-code : (n s a : ℕ) (bs ba q d : List ℕ)
     → unless (all (blockNamesAt s a bs ba q) n && all (durationFitsAt d) n && all (untimedFitsAt q d) n) 5 ≡ blocksCode n s a bs ba q d
 unfolding blocksCode
 columns-code n s a bs ba q d =
-    ap (λ (x : Bool). unless x 5) (ap (λ (x : Bool). x && all (untimedFitsAt q d) n) (all-both (blockNamesAt s a bs ba q) (durationFitsAt d) n) ∙ all-both _ (untimedFitsAt q d) n)
-    ∙ sym (first-by-test 5 (blockFitsAt s a bs ba q d) n (λ z. omega arith))
+    test-code (blockFitsAt s a bs ba q d) n
+    (ap (λ (x : Bool). x && all (untimedFitsAt q d) n) (all-both (blockNamesAt s a bs ba q) (durationFitsAt d) n) ∙ all-both _ (untimedFitsAt q d) n)
 
 -- ---- the counts within their limits
 

@@ -2,20 +2,20 @@
 use borrow.Author.Tests.{not-true, not-false}
 use Prim.Native.Nat.{_≤_, _-_}
 use denote.Ref.{now}
-use mathlib.Core.Path.{_≡_, sym}
+use mathlib.Core.Path.{_≡_, sym, _∙_}
 use native.Mathlib.Omega.{arith}
 use borrow.Author.Needs.{needs}
 use mathlib.Core.Bool.{true}
 use lib.ListN.{getD}
 use Rattle.sets.specs.Loops.{all}
-use Rattle.sets.proofs.Loops.{all-start, all-more, all-fails, all-end}
+use Rattle.sets.proofs.Loops.{all-start, all-turn, all-fails, all-done}
 use Rattle.cycle.specs.Choosing.{ripeAt}
 use Rattle.cycle.proofs.choosing.Laws.{at-once}
 use Rattle.cycle.proofs.choosing.is_ripe.Statement.{statement}
 use Rattle.cycle.proofs.choosing.is_ripe.Tie as tie
 
 abbrev Inv-loop : tie.InvT-loop
-Inv-loop wait sources counts k₀ k = (all (λ j. ripeAt wait sources j (getD counts j 0)) k ≡ true) × (k ≤ 64)
+Inv-loop wait sources counts k₀ k = (true ≡ all (λ j. ripeAt wait sources j (getD counts j 0)) k) × (k ≤ 64)
 
 abbrev μ-loop : tie.MeasureT-loop
 μ-loop wait sources counts k₀ k = 64 - k
@@ -24,7 +24,7 @@ returns : tie.Need-returns Inv-loop μ-loop
 returns c = let a = c .before .args in at-once (a .wait) (a .sources) (now (a .counts)) (c .if1 .taken)
 
 loop-holds : tie.Need-loop-holds Inv-loop μ-loop
-loop-holds c = (sym (all-start _), omega arith)
+loop-holds c = (all-start _, omega arith)
 
 mul-ripe-at : tie.Need-mul-ripe-at Inv-loop μ-loop
 mul-ripe-at c = omega arith
@@ -45,10 +45,10 @@ loop-less : tie.Need-loop-less Inv-loop μ-loop
 loop-less c = omega arith
 
 loop-again : tie.Need-loop-again Inv-loop μ-loop
-loop-again c = (all-more _ _ (c .before .before .before .before .loop .inv .0) (c .before .ripe-at .ensures) (not-false _ (c .if2 .left)), omega arith)
+loop-again c = (sym (not-false _ (c .if2 .left)) ∙ all-turn _ _ (c .before .before .before .before .loop .inv .0) (c .before .ripe-at .ensures), omega arith)
 
 returns-3 : tie.Need-returns-3 Inv-loop μ-loop
-returns-3 c = all-end _ 64 _ (c .before .loop .inv .0) (c .loop-test .left) (c .before .loop .inv .1)
+returns-3 c = let l = c .before .loop in all-done _ (l .k) (l .inv .0) (c .loop-test .left) (l .inv .1)
 
 pub is-ripe-spec : {M : Type 1} → statement M
 is-ripe-spec =

@@ -6,7 +6,7 @@ use native.Mathlib.Omega.{arith}
 use Rattle.sets.specs.Loops.{all}
 use Rattle.sets.proofs.Loops.{all-start, all-turn, and-three, all-done}
 use Rattle.reader.specs.Held.{blockNamesAt}
-use Rattle.reader.proofs.held.Laws.{names-fit}
+use Rattle.reader.proofs.held.Laws.{names-bytes}
 use Rattle.reader.proofs.held.block_names_fit.Statement.{statement}
 use Rattle.reader.proofs.held.block_names_fit.Tie as tie
 
@@ -38,7 +38,7 @@ loop-again : tie.Need-loop-again Inv-loop μ-loop
 loop-again c =
     let l = c .before .before .before .before .loop in
     let a = c .before .before .before .before .before .args in
-    (and-three (l .fit) _ _ _ ∙ all-turn _ (l .i) (l .inv .0) (names-fit (a .steps) (a .actions) (now (a .blockstep)) (now (a .blockaction)) (now (a .qualifier)) (l .i)), omega arith)
+    (and-three (l .fit) _ _ _ ∙ all-turn _ (l .i) (l .inv .0) (names-bytes (a .steps) (a .actions) (now (a .blockstep)) (now (a .blockaction)) (now (a .qualifier)) (l .i)), omega arith)
 
 returns : tie.Need-returns Inv-loop μ-loop
 returns c = let l = c .before .loop in all-done _ (l .i) (l .inv .0) (c .loop-test .left) (l .inv .1)

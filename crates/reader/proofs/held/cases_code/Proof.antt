@@ -7,7 +7,7 @@ use borrow.Author.Needs.{needs}
 use Rattle.sets.specs.Loops.{all}
 use Rattle.sets.proofs.Loops.{all-start, all-turn, and-three}
 use Rattle.reader.specs.Held.{caseFitsAt, casesCode}
-use Rattle.reader.proofs.held.Laws.{case-fits, column-end}
+use Rattle.reader.proofs.held.Laws.{case-bytes, column-end}
 use Rattle.reader.proofs.held.cases_code.Statement.{statement}
 use Rattle.reader.proofs.held.cases_code.Tie as tie
 
@@ -48,7 +48,7 @@ loop-again : tie.Need-loop-again Inv-loop μ-loop
 loop-again c =
     let l = c .before .before .before .before .loop in
     let a = c .before .before .before .before .before .args in
-    (and-three (l .fit) _ _ _ ∙ all-turn _ (l .i) (l .inv .0) (case-fits (a .steps) (a .actions) (now (a .casestep)) (now (a .signal)) (now (a .expected)) (l .i) (omega arith)), omega arith)
+    (and-three (l .fit) _ _ _ ∙ all-turn _ (l .i) (l .inv .0) (case-bytes (a .steps) (a .actions) (now (a .casestep)) (now (a .signal)) (now (a .expected)) (l .i) (omega arith)), omega arith)
 
 unless-requires : tie.Need-unless-requires Inv-loop μ-loop
 unless-requires c κs = search needs
