@@ -4,8 +4,6 @@ use Prim.Native.Char.{code}
 use Prim.Native.String.{String, [] as nothing, _∷_ as _then_}
 use mathlib.Core.Bool.{cond}
 use mathlib.Core.List.{List, [], _∷_, _++_}
-use mathlib.Core.Path.{_≡_}
-use lib.ListN.{length, take, drop}
 use lib.Dec.{ltb}
 
 -- the bytes of a text
@@ -30,14 +28,6 @@ decimalFrom (suc more) n = cond (ltb n 10) (digit n ∷ []) (decimalFrom more (n
 -- twenty digits hold every 64-bit number
 abbrev pub decimal : ℕ → List ℕ
 decimal n = decimalFrom 20 n
-
--- the bytes e with t written over them from a place on
-abbrev pub over : List ℕ → ℕ → List ℕ → List ℕ
-over e at t = take at e ++ (t ++ drop (length t) (drop at e))
-
--- what each function that writes t into a buffer e leaves there, and the place behind t that it answers
-abbrev pub Put : List ℕ → ℕ → List ℕ → List ℕ → ℕ → Type 0
-Put e at t now end = (now ≡ over e at t) × (end ≡ at + length t)
 
 -- "Per accepted call it prints its number (decimal), active steps (16 hex digits), activity (8), taken (16), with single spaces."
 unfoldable pub acceptedLine : ℕ → ℕ → ℕ → ℕ → List ℕ

@@ -11,7 +11,8 @@ use Rattle.cycle.specs.Run.{noRun}
 use Rattle.cycle.specs.Cycling.{startOf, cycleOf}
 use Rattle.cycle.specs.declared.run.Run.{Run}
 use Rattle.cycle.specs.declared.cycling.Cycled.{Cycled}
-use Rattle.report.specs.Lines.{over, acceptedLine, refusedLine, chartLine, traceLine, tallyLine}
+use Rattle.sets.specs.Bytes.{over}
+use Rattle.report.specs.Lines.{acceptedLine, refusedLine, chartLine, traceLine, tallyLine}
 use Rattle.tally.specs.Tallying.{tallyOf}
 use Rattle.trace.specs.Tracing.{callAt}
 use Rattle.tally.specs.declared.tallying.Tallied.{Tallied}

@@ -3,7 +3,8 @@ ghost use Prim.Native.Nat.{_+_, _≤_, _<_};
 ghost use mathlib.Core.List.{_++_};
 ghost use mathlib.Core.Path.{_≡_};
 ghost use lib.ListN.{length};
-ghost use Rattle.report.specs.Lines.{text, digit, hex, decimal, Put, acceptedLine, refusedLine, chartLine, traceLine, tallyLine};
+ghost use Rattle.sets.specs.Bytes.{Put};
+ghost use Rattle.report.specs.Lines.{text, digit, hex, decimal, acceptedLine, refusedLine, chartLine, traceLine, tallyLine};
 
 // The longest line: the tally with three numbers of twenty digits.
 pub const LINE: usize = 84;

@@ -2,7 +2,7 @@
 ghost use Prim.Native.Nat.{_≤_};
 ghost use mathlib.Core.Path.{_≡_};
 ghost use lib.ListN.{length};
-ghost use Rattle.report.specs.Lines.{Put};
+ghost use Rattle.sets.specs.Bytes.{Put};
 ghost use Rattle.trace.specs.Tracing.{callAt};
 ghost use Rattle.report.specs.Printing.{callLine, closingLine, numberAt, opening, unmoved, stepped, Prints, lineFor, standingFor, printedOf, lineAfter};
 use crate::lines;

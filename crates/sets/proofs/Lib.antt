@@ -1,5 +1,6 @@
 pub mod Below
 pub mod Bits
+pub mod Bytes
 pub mod Counts
 pub mod Examples
 pub mod Least

@@ -1,2 +1,3 @@
+pub mod Bytes
 pub mod Loops
 pub mod Sets

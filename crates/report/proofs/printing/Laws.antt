@@ -12,7 +12,8 @@ use Rattle.reader.specs.declared.chart.Chart.{Chart}
 use Rattle.cycle.specs.Cycling.{startOf, cycleOf}
 use Rattle.cycle.specs.declared.run.Run.{Run}
 use Rattle.cycle.specs.declared.cycling.Cycled.{Cycled}
-use Rattle.report.specs.Lines.{Put, chartLine, traceLine}
+use Rattle.sets.specs.Bytes.{Put}
+use Rattle.report.specs.Lines.{chartLine, traceLine}
 use Rattle.tally.specs.Tallying.{tallyOf}
 use Rattle.trace.specs.Tracing.{callAt}
 use Rattle.report.specs.Printing.{lineOf, closingLine, printedAt, printedFrom, numberAt, stepped, unmoved, lineFor, standingFor, Prints, nextLine, nextStanding, printedOf, lineAfter}

@@ -4,7 +4,8 @@ use native.Mathlib.Omega.{arith}
 use denote.Ref.{now}
 use lib.ListN.{length-set}
 use Rattle.report.specs.Lines.{digit, decimal}
-use Rattle.report.proofs.lines.Laws.{put-byte, put-last, decimal-one, decimal-last, tenth-short}
+use Rattle.sets.proofs.Bytes.{put-byte, put-last}
+use Rattle.report.proofs.lines.Laws.{decimal-one, decimal-last, tenth-short}
 use borrow.Fn.Kinds.{In}
 use borrow.Fn.PlainCycle.{Measures, is, falls, and}
 use Rattle.report.proofs.lines.put_decimal.Reads as put-decimal

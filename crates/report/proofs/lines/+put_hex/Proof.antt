@@ -4,7 +4,8 @@ use native.Mathlib.Omega.{arith}
 use denote.Ref.{now}
 use lib.ListN.{length-set}
 use Rattle.report.specs.Lines.{digit, hex}
-use Rattle.report.proofs.lines.Laws.{put-none, put-last, hex-length, hex-last}
+use Rattle.sets.proofs.Bytes.{put-none, put-last}
+use Rattle.report.proofs.lines.Laws.{hex-length, hex-last}
 use borrow.Fn.Kinds.{In}
 use borrow.Fn.PlainCycle.{Measures, is, falls, and}
 use Rattle.report.proofs.lines.put_hex.Reads as put-hex

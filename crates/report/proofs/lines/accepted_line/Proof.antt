@@ -6,7 +6,8 @@ use native.Mathlib.Omega.{arith}
 use denote.Ref.{now}
 use lib.ListN.{length}
 use Rattle.report.specs.Lines.{text, hex, decimal, acceptedLine}
-use Rattle.report.proofs.lines.Laws.{put-five, hex-length, decimal-short}
+use Rattle.sets.proofs.Bytes.{put-five}
+use Rattle.report.proofs.lines.Laws.{hex-length, decimal-short}
 use Rattle.report.proofs.lines.accepted_line.Statement.{statement}
 use Rattle.report.proofs.lines.accepted_line.Tie as tie
 

@@ -6,7 +6,8 @@ use native.Mathlib.Omega.{arith}
 use denote.Ref.{now}
 use lib.ListN.{length}
 use Rattle.report.specs.Lines.{text, decimal, chartLine}
-use Rattle.report.proofs.lines.Laws.{put-put, decimal-short}
+use Rattle.sets.proofs.Bytes.{put-put}
+use Rattle.report.proofs.lines.Laws.{decimal-short}
 use Rattle.report.proofs.lines.chart_line.Statement.{statement}
 use Rattle.report.proofs.lines.chart_line.Tie as tie
 

@@ -4,8 +4,8 @@ use mathlib.Core.Path.{_≡_, refl}
 use native.Mathlib.Omega.{arith}
 use denote.Ref.{now}
 use lib.ListN.{length, take}
-use Rattle.report.specs.Lines.{Put}
-use Rattle.report.proofs.lines.Laws.{put-none, put-turn, put-all, put-kept}
+use Rattle.sets.specs.Bytes.{Put}
+use Rattle.sets.proofs.Bytes.{put-none, put-turn, put-all, put-kept}
 use Rattle.report.proofs.lines.put.Statement.{statement}
 use Rattle.report.proofs.lines.put.Tie as tie
 

@@ -3,7 +3,7 @@ use borrow.Author.Needs.{needs}
 use native.Mathlib.Omega.{arith}
 use denote.Ref.{now}
 use Rattle.report.specs.Lines.{decimal}
-use Rattle.report.proofs.lines.Laws.{put-put}
+use Rattle.sets.proofs.Bytes.{put-put}
 use Rattle.report.proofs.lines.put_named.Statement.{statement}
 use Rattle.report.proofs.lines.put_named.Tie as tie
 

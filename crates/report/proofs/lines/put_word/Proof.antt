@@ -3,7 +3,7 @@ use borrow.Author.Needs.{needs}
 use native.Mathlib.Omega.{arith}
 use denote.Ref.{now}
 use Rattle.report.specs.Lines.{text, hex}
-use Rattle.report.proofs.lines.Laws.{put-put}
+use Rattle.sets.proofs.Bytes.{put-put}
 use Rattle.report.proofs.lines.put_word.Statement.{statement}
 use Rattle.report.proofs.lines.put_word.Tie as tie
 

@@ -6,7 +6,8 @@ use native.Mathlib.Omega.{arith}
 use denote.Ref.{now}
 use lib.ListN.{length}
 use Rattle.report.specs.Lines.{text, decimal, refusedLine}
-use Rattle.report.proofs.lines.Laws.{put-three, decimal-short}
+use Rattle.sets.proofs.Bytes.{put-three}
+use Rattle.report.proofs.lines.Laws.{decimal-short}
 use Rattle.report.proofs.lines.refused_line.Statement.{statement}
 use Rattle.report.proofs.lines.refused_line.Tie as tie
 

@@ -6,7 +6,8 @@ use native.Mathlib.Omega.{arith}
 use denote.Ref.{now}
 use lib.ListN.{length}
 use Rattle.report.specs.Lines.{text, decimal, tallyLine}
-use Rattle.report.proofs.lines.Laws.{put-four, decimal-short}
+use Rattle.sets.proofs.Bytes.{put-four}
+use Rattle.report.proofs.lines.Laws.{decimal-short}
 use Rattle.report.proofs.lines.tally_line.Statement.{statement}
 use Rattle.report.proofs.lines.tally_line.Tie as tie
 
