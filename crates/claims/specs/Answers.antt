@@ -12,7 +12,7 @@ use lib.ListN.{length, getD, take, drop}
 use lib.Dec.{leb, eqb}
 use borrow.Author.Tests.{le-leb, lt-leb, eq-eqb, ne-eqb}
 use Rattle.sets.specs.Loops.{orElse}
-use Rattle.reader.specs.Fields.{unless}
+use Rattle.fields.specs.Fields.{unless}
 use Rattle.reader.specs.Framing.{lengthAt, kindAt, bodyLength, kindFits, recordNumber, recordValues}
 use Rattle.reader.specs.Chart.{noChart}
 use Rattle.reader.specs.Held.{chartCode}

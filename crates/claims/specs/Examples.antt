@@ -11,9 +11,9 @@ use lib.IntN.{pos}
 use lib.ListN.{getD, replicate}
 use Rattle.sets.specs.Loops.{all, some, summed, firstCode, tableFrom, turns}
 use Rattle.sets.specs.Sets.{has, collect}
+use Rattle.fields.specs.Fields.{L, D, SD, SL, transitionCode}
 use Rattle.reader.specs.Chart.{noChart, withStep, withAction, withTransition, withBlock}
 use Rattle.reader.specs.Framing.{recordNumber}
-use Rattle.reader.specs.Fields.{L, D, SD, SL, transitionCode}
 use Rattle.reader.specs.Bodies.{bodyAt}
 use Rattle.reader.specs.Held.{stepsCode, actionsCode, transitionsCode, blocksCode, casesCode, someInitial, timedFor, timedTwice, heldCode}
 use Rattle.reader.specs.Reading.{readFrom, readChart}

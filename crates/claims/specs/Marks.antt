@@ -13,7 +13,7 @@ use Rattle.sets.specs.Sets.{has, union, collect}
 use Rattle.sets.proofs.Loops.{or-true, or-false, else-zero}
 use Rattle.sets.proofs.Members.{has-zero, has-collect}
 use Rattle.sets.proofs.Below.{has-union}
-use Rattle.reader.specs.Fields.{unless}
+use Rattle.fields.specs.Fields.{unless}
 use Rattle.reader.specs.Held.{chartCode}
 use Rattle.reader.specs.declared.chart.Chart.{Chart}
 use Rattle.reader.proofs.held.Sound.{sound}

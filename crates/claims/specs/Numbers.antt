@@ -11,7 +11,7 @@ use lib.Dec.{leb, ltb, eqb}
 use borrow.Author.Tests.{eqb-true, eq-eqb, ne-eqb}
 use Rattle.sets.specs.Loops.{firstCode}
 use Rattle.sets.proofs.Loops.{first-found, length-table}
-use Rattle.reader.specs.Fields.{unless, stepFits, actionFits, blockFits, caseFits}
+use Rattle.fields.specs.Fields.{unless, stepFits, actionFits, blockFits, caseFits}
 use Rattle.reader.specs.Framing.{lengthAt, kindAt, bodyLength, kindFits, headNumber, recordNumber}
 use Rattle.reader.specs.Bodies.{bodyAt}
 use Rattle.reader.specs.Chart.{noChart}

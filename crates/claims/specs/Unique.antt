@@ -9,6 +9,9 @@ use mir.Syntax.{w32}
 use mir.Val.{toZ}
 use Rattle.sets.specs.Sets.{has, Within, Apart, Below, union, inter, minus, insert, beyond, first, remove, size}
 use Rattle.sets.proofs.Unique.{is-in-unique, is-within-unique, is-apart-unique, names-below-unique, joined-unique, common-unique, without-unique, with-unique, with-if-unique, beyond-unique, first-unique, without-first-unique, size-unique}
+use Rattle.sets.specs.Loops.{orElse}
+use Rattle.fields.specs.Fields.{timed, unless, stepFits, actionFits, transitionCode, blockFits, caseFits}
+use Rattle.fields.proofs.Unique.{is-timed-unique, or-else-unique, unless-unique, step-fits-unique, action-fits-unique, transition-code-unique, block-fits-unique, case-fits-unique}
 use Rattle.reader.specs.Numbers.{leFrom}
 use Rattle.reader.specs.Framing.{Answers}
 use Rattle.reader.specs.Chart.{noChart}
@@ -66,6 +69,17 @@ pub record SetsUnique : Type 0 where
   pub first : (s : ℕ) → One (λ (r : ℕ). r ≡ first s)
   pub size : (s : ℕ) → One (λ (r : ℕ). r ≡ size s)
 
+-- fields/src/lib.rt
+pub record FieldsUnique : Type 0 where
+  pub is-timed : (qualifier : ℕ) → One (λ (r : Bool). r ≡ timed qualifier)
+  pub or-else : (a b : ℕ) → One (λ (r : ℕ). r ≡ orElse a b)
+  pub unless : (ok : Bool) (code : ℕ) → One (λ (r : ℕ). r ≡ unless ok code)
+  pub step-fits : (initial : ℕ) → One (λ (r : Bool). r ≡ stepFits initial)
+  pub action-fits : (output : ℕ) → One (λ (r : Bool). r ≡ actionFits output)
+  pub transition-code : (steps actions sources targets on off wait : ℕ) → One (λ (r : ℕ). r ≡ transitionCode steps actions sources targets on off wait)
+  pub block-fits : (steps actions step action qualifier duration : ℕ) → One (λ (r : Bool). r ≡ blockFits steps actions step action qualifier duration)
+  pub case-fits : (steps actions step signal expected : ℕ) → One (λ (r : Bool). r ≡ caseFits steps actions step signal expected)
+
 -- reader/src: chart, framing, held, numbers, reading
 pub record ReaderUnique : Type 0 where
   pub no-chart : One (λ (r : Chart). r ≡ noChart)
@@ -111,6 +125,7 @@ pub record ReportUnique : Type 0 where
 
 pub record Unique : Type 0 where
   pub sets : SetsUnique
+  pub fields : FieldsUnique
   pub reader : ReaderUnique
   pub cycle : CycleUnique
   pub trace : TraceUnique
@@ -133,6 +148,16 @@ unique = record {
     without-first = without-first-unique;
     first = first-unique;
     size = size-unique;
+  };
+  fields = record {
+    is-timed = is-timed-unique;
+    or-else = or-else-unique;
+    unless = unless-unique;
+    step-fits = step-fits-unique;
+    action-fits = action-fits-unique;
+    transition-code = transition-code-unique;
+    block-fits = block-fits-unique;
+    case-fits = case-fits-unique;
   };
   reader = record {
     no-chart = no-chart-unique;

@@ -12,7 +12,7 @@ use Rattle.sets.specs.Loops.{summed}
 use Rattle.sets.specs.Sets.{has}
 use Rattle.sets.proofs.Loops.{else-zero, first-zero}
 use Rattle.sets.proofs.Counts.{summed-same}
-use Rattle.reader.specs.Fields.{unless}
+use Rattle.fields.specs.Fields.{unless}
 use Rattle.reader.specs.Held.{chartCode}
 use Rattle.reader.specs.declared.chart.Chart.{Chart}
 use Rattle.cycle.specs.Cycling.{startOf}

@@ -10,7 +10,7 @@ use mathlib.Core.Bool.{Bool, false, _&&_, _||_, cond}
 use lib.ListN.{getD}
 use lib.Dec.{leb, ltb, eqb}
 use Rattle.sets.specs.Sets.{has, union, inter, minus, insert, named}
-use Rattle.reader.specs.Fields.{N, R, S, L, D, P, SD, DS, SL, P1, P0}
+use Rattle.fields.specs.Fields.{N, R, S, L, D, P, SD, DS, SL, P1, P0}
 use Rattle.cycle.specs.Moving.{keptCount}
 use Rattle.cycle.specs.declared.acting.Steps.{Steps}
 use Rattle.cycle.specs.declared.acting.Request.{Request}

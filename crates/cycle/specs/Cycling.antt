@@ -7,7 +7,7 @@ use lib.ListN.{length, getD, replicate, drop}
 use lib.Dec.{leb, eqb}
 use Rattle.sets.specs.Loops.{orElse}
 use Rattle.sets.specs.Sets.{union}
-use Rattle.reader.specs.Fields.{unless}
+use Rattle.fields.specs.Fields.{unless}
 use Rattle.reader.specs.Held.{chartCode}
 use Rattle.reader.specs.declared.chart.Chart.{Chart}
 use Rattle.cycle.specs.Run.{noRun}

@@ -7,8 +7,8 @@ use lib.Dec.{ltb, eqb}
 use mir.Syntax.{w32}
 use mir.Val.{toZ}
 use Rattle.sets.specs.Loops.{orElse}
+use Rattle.fields.specs.Fields.{unless, stepFits, actionFits, transitionCode, blockFits, caseFits}
 use Rattle.reader.specs.Numbers.{le}
-use Rattle.reader.specs.Fields.{unless, stepFits, actionFits, transitionCode, blockFits, caseFits}
 use Rattle.reader.specs.declared.bodies.Body.{Body}
 use Rattle.reader.specs.declared.bodies.Body.the-variants.{Step, Action, Transition, Block, Case}
 

@@ -6,7 +6,7 @@ use mathlib.Core.Bool.{Bool, _&&_, _||_, not}
 use lib.ListN.{getD}
 use lib.Dec.{leb, eqb}
 use Rattle.sets.specs.Loops.{some, orElse, firstCode}
-use Rattle.reader.specs.Fields.{longest, timed, timing, unless, stepFits, actionFits, transitionCode, blockNames, blockFits, caseFits}
+use Rattle.fields.specs.Fields.{longest, timed, timing, unless, stepFits, actionFits, transitionCode, blockNames, blockFits, caseFits}
 use Rattle.reader.specs.declared.chart.Chart.{Chart}
 
 -- "1 to 64 steps, 0 to 32 actions, 0 to 64 transitions, 0 to 256 blocks and 0 to 64 cases"; no step at all is refusal 9

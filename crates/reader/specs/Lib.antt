@@ -1,6 +1,5 @@
 pub mod Numbers
 pub mod Framing
-pub mod Fields
 pub mod Bodies
 pub mod Chart
 pub mod Held

@@ -4,9 +4,8 @@ ghost use Prim.Native.Nat.{_+_, _≤_};
 ghost use lib.ListN.{length};
 ghost use Rattle.reader.specs.Framing.{bodyLength};
 ghost use Rattle.reader.specs.Bodies.{stepAt, actionAt, transitionAt, blockAt, caseAt, bodyAt, limited, bodyCode};
-use crate::codes::BAD_FIELD;
+use fields::codes::BAD_FIELD;
 use crate::codes::TOO_MANY;
-use crate::fields;
 use crate::numbers;
 
 pub enum Body {

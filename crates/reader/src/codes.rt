@@ -1,4 +1,4 @@
-// Document 01's numbers of refusal that the reader gives.
+// Document 01's numbers of refusal that the reader gives, beside those of fields.
 pub const CUT: u8 = 1;
 
 pub const BAD_KIND: u8 = 2;
@@ -6,12 +6,6 @@ pub const BAD_KIND: u8 = 2;
 pub const BAD_LENGTH: u8 = 3;
 
 pub const TOO_MANY: u8 = 4;
-
-pub const BAD_FIELD: u8 = 5;
-
-pub const BAD_STEPS: u8 = 6;
-
-pub const BAD_SIGNALS: u8 = 7;
 
 pub const TIMED_TWICE: u8 = 8;
 

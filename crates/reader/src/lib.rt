@@ -2,7 +2,6 @@
 pub mod bodies;
 pub mod chart;
 pub mod codes;
-pub mod fields;
 pub mod framing;
 pub mod held;
 pub mod numbers;

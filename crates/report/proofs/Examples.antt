@@ -4,7 +4,7 @@ use mathlib.Core.List.{List, [], _∷_, _++_}
 use mathlib.Core.Path.{_≡_, refl}
 use Rattle.sets.specs.Loops.{all, some, summed, firstCode, tableFrom, turns}
 use Rattle.sets.specs.Sets.{collect}
-use Rattle.reader.specs.Fields.{transitionCode}
+use Rattle.fields.specs.Fields.{transitionCode}
 use Rattle.reader.specs.Framing.{recordNumber}
 use Rattle.reader.specs.Bodies.{bodyAt}
 use Rattle.reader.specs.Held.{stepsCode, actionsCode, transitionsCode, blocksCode, casesCode, someInitial, timedFor, timedTwice, heldCode}

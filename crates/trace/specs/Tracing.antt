@@ -5,7 +5,7 @@ use mathlib.Core.Bool.{Bool, _&&_, cond}
 use mathlib.Core.List.{List}
 use lib.ListN.{length}
 use lib.Dec.{eqb, leb, ltb}
-use Rattle.reader.specs.Fields.{unless}
+use Rattle.fields.specs.Fields.{unless}
 use Rattle.reader.specs.Numbers.{le}
 use Rattle.reader.specs.Framing.{lengthAt, kindAt}
 use Rattle.trace.specs.declared.tracing.Call.{Call}

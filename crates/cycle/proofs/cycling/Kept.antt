@@ -12,7 +12,7 @@ use Rattle.sets.specs.Sets.{has, Below, union, inter, minus}
 use Rattle.sets.proofs.Loops.{and-true, or-true, true-all, else-zero, getD-table}
 use Rattle.sets.proofs.Members.{has-zero}
 use Rattle.sets.proofs.Below.{below-zero, below-collect, below-union, below-inter, below-minus, below-named, has-minus}
-use Rattle.reader.specs.Fields.{unless}
+use Rattle.fields.specs.Fields.{unless}
 use Rattle.reader.specs.Held.{chartCode}
 use Rattle.reader.specs.declared.chart.Chart.{Chart}
 use Rattle.reader.proofs.held.Sound.{Sound, sound}

@@ -5,7 +5,7 @@ use native.Mathlib.Omega.{arith}
 use lib.Dec.{eqb}
 use Rattle.sets.specs.Loops.{orElse, firstCode}
 use Rattle.sets.specs.Sets.{Apart}
-use Rattle.reader.specs.Fields.{unless, transitionFits, stepsDiffer, transitionCode}
+use Rattle.fields.specs.Fields.{unless, transitionFits, stepsDiffer, transitionCode}
 use Rattle.reader.specs.Held.{limitsFit, stepFitsAt, stepsCode, actionFitsAt, actionsCode, transitionCodeAt, transitionsCode, blockFitsAt, blocksCode, caseFitsAt, casesCode, someInitial, timedTwice, closingCode, heldCode, chartCode}
 use Rattle.reader.specs.declared.chart.Chart.{Chart}
 

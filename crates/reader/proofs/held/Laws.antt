@@ -10,9 +10,9 @@ use lib.Dec.{leb, ltb, eqb}
 use borrow.Author.Tests.{leb-true, lt-ltb, ltb-true, eqb-true, eqb-false}
 use Rattle.sets.specs.Loops.{all, some, firstCode}
 use Rattle.sets.proofs.Loops.{first-by-test, and-true, some-start, some-turn, all-both, all-done, or-false, or-true, and-yes, and-no}
-use Rattle.reader.specs.Fields.{timed, unless}
+use Rattle.fields.specs.Fields.{timed, unless}
+use Rattle.fields.proofs.Laws.{timing-fits, timing-timed}
 use Rattle.reader.specs.Held.{limitsFit, blockNamesAt, durationFitsAt, untimedFitsAt, blockFitsAt, blocksCode, caseFitsAt, timedFor, timedAgain}
-use Rattle.reader.proofs.fields.Laws.{timing-fits, timing-timed}
 
 test-code : (p : ℕ → Bool) (n : ℕ) {fit : Bool} → fit ≡ all p n → unless fit 5 ≡ firstCode (λ k. unless (p k) 5) n
 test-code p n e = ap (λ (x : Bool). unless x 5) e ∙ sym (first-by-test 5 p n (λ z. omega arith))

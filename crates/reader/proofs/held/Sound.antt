@@ -10,7 +10,7 @@ use native.Mathlib.Omega.{arith}
 use borrow.Author.Tests.{leb-true, ltb-true}
 use Rattle.sets.specs.Sets.{Below}
 use Rattle.sets.proofs.Loops.{and-true, else-zero, first-zero}
-use Rattle.reader.specs.Fields.{unless, signalExists, signalsExist, transitionFits, transitionCode, blockFits, caseFits, actionFits, timing, longest}
+use Rattle.fields.specs.Fields.{unless, signalExists, signalsExist, transitionFits, transitionCode, blockFits, caseFits, actionFits, timing, longest}
 use Rattle.reader.specs.Held.{limitsFit, stepsCode, actionsCode, transitionsCode, transitionCodeAt, blocksCode, blockFitsAt, casesCode, caseFitsAt, heldCode, chartCode}
 use Rattle.reader.specs.declared.chart.Chart.{Chart}
 use Rattle.reader.proofs.held.Laws.{Limits, limits}

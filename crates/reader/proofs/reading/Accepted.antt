@@ -10,7 +10,7 @@ use lib.Dec.{ltb, eqb}
 use native.Mathlib.Omega.{arith}
 use borrow.Author.Tests.{le-leb, eqb-true, eqb-false, ltb-false}
 use Rattle.sets.specs.Loops.{orElse}
-use Rattle.reader.specs.Fields.{unless}
+use Rattle.fields.specs.Fields.{unless}
 use Rattle.reader.specs.Framing.{lengthAt, kindAt, bodyLength, recordNumber}
 use Rattle.reader.specs.Bodies.{bodyAt}
 use Rattle.reader.specs.Chart.{noChart}

@@ -3,8 +3,8 @@ use Prim.Native.Nat.{ℕ}
 use mathlib.Core.List.{List, [], _∷_}
 use mathlib.Core.Path.{_≡_, refl}
 use Rattle.sets.specs.Loops.{all, some, firstCode}
+use Rattle.fields.specs.Fields.{transitionCode}
 use Rattle.reader.specs.Framing.{recordNumber}
-use Rattle.reader.specs.Fields.{transitionCode}
 use Rattle.reader.specs.Bodies.{bodyAt}
 use Rattle.reader.specs.Chart.{noChart, withStep}
 use Rattle.reader.specs.Held.{someInitial, timedTwice, timedFor, stepsCode, actionsCode, transitionsCode, blocksCode, casesCode, heldCode, chartCode}

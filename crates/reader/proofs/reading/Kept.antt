@@ -9,7 +9,7 @@ use native.Mathlib.Omega.{arith}
 use lib.Dec.{ltb}
 use Rattle.sets.specs.Loops.{firstCode}
 use Rattle.sets.proofs.Loops.{first-start, first-turn, first-same}
-use Rattle.reader.specs.Fields.{unless, stepFits, actionFits, transitionCode, blockFits, caseFits}
+use Rattle.fields.specs.Fields.{unless, stepFits, actionFits, transitionCode, blockFits, caseFits}
 use Rattle.reader.specs.Held.{stepsCode, actionsCode, transitionsCode, blocksCode, casesCode, stepFitsAt, actionFitsAt, transitionCodeAt, blockFitsAt, caseFitsAt}
 use Rattle.reader.specs.Chart.{noChart, withStep, withAction, withTransition, withBlock, withCase}
 use Rattle.reader.specs.Reading.{numberIn}

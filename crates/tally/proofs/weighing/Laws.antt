@@ -9,7 +9,7 @@ use lib.ListN.{length, getD, List·getD-eq-default}
 use Rattle.sets.specs.Loops.{summed}
 use Rattle.sets.specs.Sets.{has}
 use Rattle.sets.proofs.Counts.{summed-more, summed-turn}
-use Rattle.reader.specs.Fields.{unless}
+use Rattle.fields.specs.Fields.{unless}
 use Rattle.reader.specs.Held.{chartCode}
 use Rattle.reader.specs.declared.chart.Chart.{Chart}
 use Rattle.reader.proofs.held.Each.{chart-most}

@@ -1,8 +1,8 @@
 -- By its callees' statements, the last call first.
-use Rattle.reader.specs.Fields.{transitionCode}
+use Rattle.fields.specs.Fields.{transitionCode}
 use borrow.Author.Needs.{needs}
-use Rattle.reader.proofs.fields.transition_code.Statement.{statement}
-use Rattle.reader.proofs.fields.transition_code.Tie as tie
+use Rattle.fields.proofs.transition_code.Statement.{statement}
+use Rattle.fields.proofs.transition_code.Tie as tie
 
 transition-fits-requires : tie.Need-transition-fits-requires
 transition-fits-requires c κs = search needs

@@ -1,23 +1,27 @@
-// The numbers of refusal of a record's fields, kind by kind: 5, and of transitions 5, 6, 7 in this order.
+// The numbers of refusal of a record's fields, kind by kind: 5, and of transitions 5, 6, 7 in this order. The reader and the held test both go by
+// these, and so each is said once.
 ghost use mathlib.Core.Path.{_≡_};
 ghost use Prim.Native.Nat.{_+_};
 ghost use Rattle.sets.specs.Loops.{orElse};
 ghost use Rattle.sets.specs.Sets.{beyond};
-ghost use Rattle.reader.specs.Fields.{timed, timing, unless, stepFits, actionFits, signalExists, transitionFits, transitionCode, blockFits, caseFits};
-use crate::codes::BAD_FIELD;
-use crate::codes::BAD_SIGNALS;
-use crate::codes::BAD_STEPS;
+ghost use Rattle.fields.specs.Fields.{timed, timing, unless, stepFits, actionFits, signalExists, transitionFits, transitionCode, blockFits, caseFits};
+
+pub mod codes;
+
+use codes::BAD_FIELD;
+use codes::BAD_SIGNALS;
+use codes::BAD_STEPS;
 
 // Waits and durations are at most a day.
-pub(crate) const LONGEST: u32 = 86_400_000;
+pub const LONGEST: u32 = 86_400_000;
 
-pub(crate) const UNTIMED: u8 = 0;
+const UNTIMED: u8 = 0;
 
-pub(crate) const TIMED: u8 = 1;
+const TIMED: u8 = 1;
 
-pub(crate) const UNKNOWN: u8 = 2;
+const UNKNOWN: u8 = 2;
 
-pub(crate) fn timing_of(qualifier: u8) -> u8
+fn timing_of(qualifier: u8) -> u8
     ensures { λ r. ⌜ r ≡ timing qualifier ⌝ }
 {
     match qualifier {
@@ -27,33 +31,33 @@ pub(crate) fn timing_of(qualifier: u8) -> u8
     }
 }
 
-pub(crate) fn is_timed(qualifier: u8) -> bool
+pub fn is_timed(qualifier: u8) -> bool
     ensures { λ r. ⌜ r ≡ timed qualifier ⌝ }
 {
     timing_of(qualifier) == TIMED
 }
 
 // The first of two numbers that is not 0.
-pub(crate) fn or_else(a: u8, b: u8) -> u8
+pub fn or_else(a: u8, b: u8) -> u8
     ensures { λ r. ⌜ r ≡ orElse a b ⌝ }
 {
     if a == 0 { b } else { a }
 }
 
 // The number unless the test holds.
-pub(crate) fn unless(ok: bool, code: u8) -> u8
+pub fn unless(ok: bool, code: u8) -> u8
     ensures { λ r. ⌜ r ≡ unless ok code ⌝ }
 {
     if ok { 0 } else { code }
 }
 
-pub(crate) fn step_fits(initial: u8) -> bool
+pub fn step_fits(initial: u8) -> bool
     ensures { λ r. ⌜ r ≡ stepFits initial ⌝ }
 {
     initial <= 1
 }
 
-pub(crate) fn action_fits(output: u8) -> bool
+pub fn action_fits(output: u8) -> bool
     ensures { λ r. ⌜ r ≡ actionFits output ⌝ }
 {
     output <= 31
@@ -69,7 +73,7 @@ fn no_signals(actions: usize) -> u64
     0
 }
 
-pub(crate) fn transition_fits(
+fn transition_fits(
     steps: usize,
     actions: usize,
     sources: u64,
@@ -85,7 +89,7 @@ pub(crate) fn transition_fits(
         & (wait <= LONGEST)
 }
 
-pub(crate) fn transition_code(
+pub fn transition_code(
     steps: usize,
     actions: usize,
     sources: u64,
@@ -105,7 +109,7 @@ pub(crate) fn transition_code(
     or_else(field, or_else(ends, signals))
 }
 
-pub(crate) fn block_fits(
+pub fn block_fits(
     steps: usize,
     actions: usize,
     step: u8,
@@ -132,7 +136,7 @@ fn signal_exists(signal: u8, actions: usize) -> bool
     ((signal - 32) as usize) < actions
 }
 
-pub(crate) fn case_fits(steps: usize, actions: usize, step: u8, signal: u8, expected: u8) -> bool
+pub fn case_fits(steps: usize, actions: usize, step: u8, signal: u8, expected: u8) -> bool
     ensures { λ r. ⌜ r ≡ caseFits steps actions step signal expected ⌝ }
 {
     ((step as usize) < steps) & (signal < 64) & signal_exists(signal, actions) & (expected <= 1)

@@ -1,7 +1,7 @@
 -- The test says which.
 use borrow.Author.Tests.{eq-eqb, ne-eqb}
-use Rattle.reader.proofs.fields.or_else.Statement.{statement}
-use Rattle.reader.proofs.fields.or_else.Tie as tie
+use Rattle.fields.proofs.or_else.Statement.{statement}
+use Rattle.fields.proofs.or_else.Tie as tie
 
 returns : tie.Need-returns
 returns c = rw (eq-eqb _ _ (c .if1 .taken))

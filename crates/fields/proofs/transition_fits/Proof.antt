@@ -1,8 +1,8 @@
 -- By its callees' statements, the last call first; each pair of sets is tested as one.
-use Rattle.reader.proofs.fields.Laws.{transition-pairs}
+use Rattle.fields.proofs.Laws.{transition-pairs}
 use borrow.Author.Needs.{needs}
-use Rattle.reader.proofs.fields.transition_fits.Statement.{statement}
-use Rattle.reader.proofs.fields.transition_fits.Tie as tie
+use Rattle.fields.proofs.transition_fits.Statement.{statement}
+use Rattle.fields.proofs.transition_fits.Tie as tie
 
 joined-requires : tie.Need-joined-requires
 joined-requires c κs = search needs

@@ -9,7 +9,7 @@ use Rattle.sets.specs.Loops.{all}
 use Rattle.sets.specs.Sets.{Apart, Below, union, beyond}
 use Rattle.sets.proofs.Loops.{all-true, and-assoc}
 use Rattle.sets.proofs.Members.{apart-beyond}
-use Rattle.reader.specs.Fields.{timed, timing, longest, signalsExist, transitionFits}
+use Rattle.fields.specs.Fields.{timed, timing, longest, signalsExist, transitionFits}
 
 ranged : ℕ → ℕ
 ranged q = cond (leb 3 q && ltb q 9 && not (eqb q 5)) 1 0

@@ -3,8 +3,8 @@ use native.Mathlib.Omega.{arith}
 use Prim.Native.Nat.{_+_}
 use Rattle.sets.proofs.Members.{none-beyond}
 use borrow.Author.Needs.{needs}
-use Rattle.reader.proofs.fields.no_signals.Statement.{statement}
-use Rattle.reader.proofs.fields.no_signals.Tie as tie
+use Rattle.fields.proofs.no_signals.Statement.{statement}
+use Rattle.fields.proofs.no_signals.Tie as tie
 
 add-beyond : tie.Need-add-beyond
 add-beyond c = search needs

@@ -1,9 +1,9 @@
 -- The ranges by one test of the eleven qualifiers.
-use Rattle.reader.proofs.fields.Laws.{timing-timed-range, timing-low, timing-high, timing-unknown}
+use Rattle.fields.proofs.Laws.{timing-timed-range, timing-low, timing-high, timing-unknown}
 use mathlib.Core.Path.{sym}
 use native.Mathlib.Omega.{arith}
-use Rattle.reader.proofs.fields.timing_of.Statement.{statement}
-use Rattle.reader.proofs.fields.timing_of.Tie as tie
+use Rattle.fields.proofs.timing_of.Statement.{statement}
+use Rattle.fields.proofs.timing_of.Tie as tie
 
 returns : tie.Need-returns
 returns c = sym (timing-timed-range _ (c .before .if1 .left) (c .if2 .taken) (c .before .before .match .rest .1))

@@ -1,8 +1,8 @@
 -- The timing is 1 exactly where the qualifier is timed.
-use Rattle.reader.proofs.fields.Laws.{timing-timed}
+use Rattle.fields.proofs.Laws.{timing-timed}
 use borrow.Author.Needs.{needs}
-use Rattle.reader.proofs.fields.is_timed.Statement.{statement}
-use Rattle.reader.proofs.fields.is_timed.Tie as tie
+use Rattle.fields.proofs.is_timed.Statement.{statement}
+use Rattle.fields.proofs.is_timed.Tie as tie
 
 timing-of-requires : tie.Need-timing-of-requires
 timing-of-requires c κs = search needs

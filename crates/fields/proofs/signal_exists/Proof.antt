@@ -6,8 +6,8 @@ use native.Mathlib.Omega.{arith}
 use borrow.Author.Tests.{lt-ltb, ltb-true}
 use Rattle.sets.proofs.Loops.{bool-eq}
 use borrow.Author.Needs.{needs}
-use Rattle.reader.proofs.fields.signal_exists.Statement.{statement}
-use Rattle.reader.proofs.fields.signal_exists.Tie as tie
+use Rattle.fields.proofs.signal_exists.Statement.{statement}
+use Rattle.fields.proofs.signal_exists.Tie as tie
 
 returns : tie.Need-returns
 returns c = let a = c .before .args in sym (lt-ltb (a .signal) (32 + a .actions) (omega arith))

@@ -1,7 +1,7 @@
 -- By the qualifier's timing.
 use borrow.Author.Needs.{needs}
-use Rattle.reader.proofs.fields.block_fits.Statement.{statement}
-use Rattle.reader.proofs.fields.block_fits.Tie as tie
+use Rattle.fields.proofs.block_fits.Statement.{statement}
+use Rattle.fields.proofs.block_fits.Tie as tie
 
 timing-of-requires : tie.Need-timing-of-requires
 timing-of-requires c κs = search needs

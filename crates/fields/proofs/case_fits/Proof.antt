@@ -1,7 +1,7 @@
 -- By the signal that exists.
 use borrow.Author.Needs.{needs}
-use Rattle.reader.proofs.fields.case_fits.Statement.{statement}
-use Rattle.reader.proofs.fields.case_fits.Tie as tie
+use Rattle.fields.proofs.case_fits.Statement.{statement}
+use Rattle.fields.proofs.case_fits.Tie as tie
 
 signal-exists-requires : tie.Need-signal-exists-requires
 signal-exists-requires c κs = search needs
