@@ -6,7 +6,7 @@ use mathlib.Core.Path.{_≡_}
 use lib.IntN.{ℤ}
 use lib.ListN.{length}
 use mir.Syntax.{w32}
-use mir.Val.{toZ}
+use mir.Val.{toZ, ofZ}
 use Rattle.sets.specs.Sets.{has, Within, Apart, Below, union, inter, minus, insert, beyond, first, remove, size}
 use Rattle.sets.proofs.Unique.{is-in-unique, is-within-unique, is-apart-unique, names-below-unique, joined-unique, common-unique, without-unique, with-unique, with-if-unique, beyond-unique, first-unique, without-first-unique, size-unique}
 use Rattle.sets.specs.Loops.{orElse}
@@ -21,7 +21,7 @@ use Rattle.reader.specs.declared.framing.Next.{Next}
 use Rattle.reader.specs.declared.chart.Chart.{Chart}
 use Rattle.reader.specs.declared.reading.Reading.{Reading}
 use Rattle.reader.proofs.framing.Laws.{record-at-unique}
-use Rattle.reader.proofs.Unique.{no-chart-unique, held-code-unique, chart-code-unique, from-unique, signed-unique, index-of-unique, read-chart-unique}
+use Rattle.reader.proofs.Unique.{no-chart-unique, held-code-unique, chart-code-unique, from-unique, signed-unique, bits-of-unique, index-of-unique, read-chart-unique}
 use Rattle.cycle.specs.Run.{noRun, longerCounter, longerTimer}
 use Rattle.cycle.specs.Time.{elapsed}
 use Rattle.cycle.specs.Moving.{initialOf}
@@ -91,6 +91,7 @@ pub record ReaderUnique : Type 0 where
   pub u32-from : (bytes : List ℕ) (at : ℕ) → One (λ (r : ℕ). r ≡ leFrom 4 bytes at)
   pub u64-from : (bytes : List ℕ) (at : ℕ) → One (λ (r : ℕ). r ≡ leFrom 8 bytes at)
   pub signed : (x : ℕ) → One (λ (r : ℤ). r ≡ toZ w32 x)
+  pub bits-of : (v : ℤ) → One (λ (r : ℕ). r ≡ ofZ w32 v)
   pub index-of : (x : ℕ) → One (λ (r : ℕ). (r ≡ x) × (r < 256))
   pub read-chart : (bytes : List ℕ) → One (λ (r : Reading). r ≡ readChart bytes)
 
@@ -168,6 +169,7 @@ unique = record {
     u32-from = from-unique 4;
     u64-from = from-unique 8;
     signed = signed-unique;
+    bits-of = bits-of-unique;
     index-of = index-of-unique;
     read-chart = read-chart-unique;
   };

@@ -3,8 +3,6 @@
 ghost use mathlib.Core.Path.{_≡_};
 ghost use Prim.Native.Nat.{_+_, _%_, _≤_};
 ghost use lib.ListN.{length};
-ghost use mir.Syntax.{w32};
-ghost use mir.Val.{ofZ};
 ghost use Rattle.engine.specs.Image.{with4, with8, withWords, withCounters, withTimers, withOutputs, withRun, countersFrom, timersFrom, outputsFrom, runFrom};
 use cycle::Run;
 use cycle::run::ActionTimer;
@@ -35,17 +33,6 @@ fn put_u64(image: &mut [u8], at: usize, x: u64)
 {
     put_u32(image, at, (x % 4294967296) as u32);
     put_u32(image, at + 4, (x / 4294967296) as u32);
-}
-
-// The bits of a signed number. A cast may not change a sign, so a negative one goes by its complement.
-fn bits_of(v: i32) -> u32
-    ensures { λ r. ⌜ r ≡ ofZ w32 v ⌝ }
-{
-    if v < 0 {
-        let low = !v;
-        return 4294967295 - low as u32;
-    }
-    v as u32
 }
 
 fn put_words(image: &mut [u8], run: Run)
@@ -104,7 +91,7 @@ pub(crate) fn put_outputs(image: &mut [u8], outputs: &[i32])
 {
     let mut k = 0;
     while k < 32 {
-        put_u32(image, 436 + 4 * k, bits_of(outputs[k]));
+        put_u32(image, 436 + 4 * k, numbers::bits_of(outputs[k]));
         k += 1;
     }
 }

@@ -4,7 +4,7 @@ use mathlib.Core.List.{List}
 use mathlib.Core.Path.{_≡_}
 use lib.IntN.{ℤ}
 use mir.Syntax.{w32}
-use mir.Val.{toZ}
+use mir.Val.{toZ, ofZ}
 use Rattle.sets.proofs.Unique.{one-answer}
 use Rattle.reader.specs.Numbers.{leFrom}
 use Rattle.reader.specs.Chart.{noChart}
@@ -24,6 +24,9 @@ from-unique w s at r q = one-answer
 
 pub signed-unique : (x : ℕ) (r q : ℤ) → r ≡ toZ w32 x → q ≡ toZ w32 x → r ≡ q
 signed-unique x r q = one-answer
+
+pub bits-of-unique : (v : ℤ) (r q : ℕ) → r ≡ ofZ w32 v → q ≡ ofZ w32 v → r ≡ q
+bits-of-unique v r q = one-answer
 
 pub chart-code-unique : (c : Chart) (r q : ℕ) → r ≡ chartCode c → q ≡ chartCode c → r ≡ q
 chart-code-unique c r q = one-answer

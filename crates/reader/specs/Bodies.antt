@@ -1,41 +1,52 @@
--- The body of a record: what its bytes are, by the table of kinds, and its number of refusal.
-use Prim.Native.Nat.{ℕ, _+_}
-use mathlib.Core.List.{List}
+-- The body of a record: what its bytes are, by the table of kinds, both ways, and its number of refusal.
+use Prim.Native.Nat.{ℕ}
+use mathlib.Core.List.{List, [], _∷_}
 use mathlib.Core.Bool.{Bool, cond}
 use lib.ListN.{getD}
 use lib.Dec.{ltb, eqb}
 use mir.Syntax.{w32}
-use mir.Val.{toZ}
+use mir.Val.{toZ, ofZ}
 use Rattle.sets.specs.Loops.{orElse}
 use Rattle.fields.specs.Fields.{unless, stepFits, actionFits, transitionCode, blockFits, caseFits}
-use Rattle.reader.specs.Numbers.{le}
+use Rattle.reader.specs.Numbers.{numbersAt}
+use Rattle.reader.specs.Framing.{widths, recordBytes}
 use Rattle.reader.specs.declared.bodies.Body.{Body}
 use Rattle.reader.specs.declared.bodies.Body.the-variants.{Step, Action, Transition, Block, Case}
 
--- "1 initial, 0 not"
-abbrev pub stepAt : List ℕ → ℕ → Body
-stepAt s at = Step (getD s at 0)
+-- a body of kind k from its fields: "1 initial, 0 not"; "output 0..31; value, signed 32 bits"; "sources, targets, on, off (64-bit sets, bit k
+-- is number k); wait in ms (32 bits)"; "step, action, qualifier (a byte each); duration in ms (32 bits)"; "step, signal 0..63, expected 0 or 1"
+abbrev pub bodyOf : ℕ → List ℕ → Body
+bodyOf k fields =
+    let x : ℕ → ℕ = λ i. getD fields i 0 in
+    cond (eqb k 1) (Step (x 0))
+    (cond (eqb k 2) (Action (x 0) (toZ w32 (x 1)))
+    (cond (eqb k 3) (Transition (x 0) (x 1) (x 2) (x 3) (x 4))
+    (cond (eqb k 4) (Block (x 0) (x 1) (x 2) (x 3)) (Case (x 0) (x 1) (x 2)))))
 
--- "output 0..31; value, signed 32 bits"
-abbrev pub actionAt : List ℕ → ℕ → Body
-actionAt s at = Action (getD s at 0) (toZ w32 (le 4 s (at + 1)))
+-- its kind, and its fields again
+abbrev pub kindOf : Body → ℕ
+kindOf (Step i) = 1
+kindOf (Action o v) = 2
+kindOf (Transition s t on off w) = 3
+kindOf (Block s a q d) = 4
+kindOf (Case s n e) = 5
 
--- "sources, targets, on, off (64-bit sets, bit k is number k); wait in ms (32 bits)"
-abbrev pub transitionAt : List ℕ → ℕ → Body
-transitionAt s at = Transition (le 8 s at) (le 8 s (at + 8)) (le 8 s (at + 16)) (le 8 s (at + 24)) (le 4 s (at + 32))
+abbrev pub fieldsOf : Body → List ℕ
+fieldsOf (Step i) = i ∷ []
+fieldsOf (Action o v) = o ∷ ofZ w32 v ∷ []
+fieldsOf (Transition s t on off w) = s ∷ t ∷ on ∷ off ∷ w ∷ []
+fieldsOf (Block s a q d) = s ∷ a ∷ q ∷ d ∷ []
+fieldsOf (Case s n e) = s ∷ n ∷ e ∷ []
 
--- "step, action, qualifier (a byte each); duration in ms (32 bits)"
-abbrev pub blockAt : List ℕ → ℕ → Body
-blockAt s at = Block (getD s at 0) (getD s (at + 1) 0) (getD s (at + 2) 0) (le 4 s (at + 3))
+-- the body of kind k that stands at a place, and the record that a body is
+abbrev pub fieldsAt : List ℕ → ℕ → ℕ → List ℕ
+fieldsAt s k at = numbersAt (widths k) s at
 
--- "step, signal 0..63, expected 0 or 1"
-abbrev pub caseAt : List ℕ → ℕ → Body
-caseAt s at = Case (getD s at 0) (getD s (at + 1) 0) (getD s (at + 2) 0)
-
--- "1 step, 2 action, 3 transition, 4 block, 5 case"
 unfoldable pub bodyAt : List ℕ → ℕ → ℕ → Body
-bodyAt s k at =
-    cond (eqb k 1) (stepAt s at) (cond (eqb k 2) (actionAt s at) (cond (eqb k 3) (transitionAt s at) (cond (eqb k 4) (blockAt s at) (caseAt s at))))
+bodyAt s k at = bodyOf k (fieldsAt s k at)
+
+abbrev pub recordOf : Body → List ℕ
+recordOf b = recordBytes (kindOf b) (fieldsOf b)
 
 -- "one more of a kind than its limit" (4), before the fields' number
 abbrev pub limited : Bool → ℕ → ℕ

@@ -5,7 +5,7 @@ use mathlib.Core.Path.{_≡_}
 use mathlib.Core.Bool.{Bool, _&&_, _||_, cond}
 use lib.ListN.{length, getD}
 use lib.Dec.{leb, eqb}
-use Rattle.reader.specs.Numbers.{le}
+use Rattle.reader.specs.Numbers.{le, numbersBytes, total}
 use Rattle.reader.specs.declared.framing.Next.{Next}
 use Rattle.reader.specs.declared.framing.Next.the-variants.{Record, End, Refused}
 
@@ -15,9 +15,18 @@ lengthAt s at = le 2 s at
 abbrev pub kindAt : List ℕ → ℕ → ℕ
 kindAt s at = le 2 s (at + 2)
 
--- the body's length by kind: the end, step, action, transition, block, case
+-- the table of kinds: the widths of a body's fields in bytes, in the file's order, for whoever reads them and whoever writes them:
+-- the end; a step: initial; an action: output, value; a transition: sources, targets, on, off, wait; a block: step, action, qualifier,
+-- duration; a case: step, signal, expected
+abbrev pub widths : ℕ → List ℕ
+widths k = getD ([] ∷ (1 ∷ []) ∷ (1 ∷ 4 ∷ []) ∷ (8 ∷ 8 ∷ 8 ∷ 8 ∷ 4 ∷ []) ∷ (1 ∷ 1 ∷ 1 ∷ 4 ∷ []) ∷ (1 ∷ 1 ∷ 1 ∷ []) ∷ []) k []
+
 abbrev pub bodyLength : ℕ → ℕ
-bodyLength k = getD (0 ∷ 1 ∷ 5 ∷ 36 ∷ 7 ∷ 3 ∷ []) k 0
+bodyLength k = total (widths k)
+
+-- "a two-byte body length, a two-byte kind, the body"
+abbrev pub recordBytes : ℕ → List ℕ → List ℕ
+recordBytes k fields = numbersBytes (2 ∷ 2 ∷ widths k) (bodyLength k ∷ k ∷ fields)
 
 -- not "kind above 5, or smaller than the kind before it (kind 0 excepted)"
 abbrev pub kindFits : ℕ → ℕ → Bool

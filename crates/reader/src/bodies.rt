@@ -3,10 +3,10 @@ ghost use mathlib.Core.Path.{_≡_};
 ghost use Prim.Native.Nat.{_+_, _≤_};
 ghost use lib.ListN.{length};
 ghost use Rattle.reader.specs.Framing.{bodyLength};
-ghost use Rattle.reader.specs.Bodies.{stepAt, actionAt, transitionAt, blockAt, caseAt, bodyAt, limited, bodyCode};
-use fields::codes::BAD_FIELD;
+ghost use Rattle.reader.specs.Bodies.{bodyOf, fieldsAt, bodyAt, limited, bodyCode};
 use crate::codes::TOO_MANY;
 use crate::numbers;
+use fields::codes::BAD_FIELD;
 
 pub enum Body {
     // initial
@@ -23,21 +23,21 @@ pub enum Body {
 
 fn step_at(bytes: &[u8], at: usize) -> Body
     requires { ⌜ at + 1 ≤ length (now bytes) ⌝ }
-    ensures { λ r. ⌜ r ≡ stepAt (now (bytes .entry)) at ⌝ }
+    ensures { λ r. ⌜ r ≡ bodyOf 1 (fieldsAt (now (bytes .entry)) 1 at) ⌝ }
 {
     Body::Step(bytes[at])
 }
 
 fn action_at(bytes: &[u8], at: usize) -> Body
     requires { ⌜ at + 5 ≤ length (now bytes) ⌝ }
-    ensures { λ r. ⌜ r ≡ actionAt (now (bytes .entry)) at ⌝ }
+    ensures { λ r. ⌜ r ≡ bodyOf 2 (fieldsAt (now (bytes .entry)) 2 at) ⌝ }
 {
     Body::Action(bytes[at], numbers::signed(numbers::u32_at(bytes, at + 1)))
 }
 
 fn transition_at(bytes: &[u8], at: usize) -> Body
     requires { ⌜ at + 36 ≤ length (now bytes) ⌝ }
-    ensures { λ r. ⌜ r ≡ transitionAt (now (bytes .entry)) at ⌝ }
+    ensures { λ r. ⌜ r ≡ bodyOf 3 (fieldsAt (now (bytes .entry)) 3 at) ⌝ }
 {
     Body::Transition(
         numbers::u64_at(bytes, at),
@@ -50,7 +50,7 @@ fn transition_at(bytes: &[u8], at: usize) -> Body
 
 fn block_at(bytes: &[u8], at: usize) -> Body
     requires { ⌜ at + 7 ≤ length (now bytes) ⌝ }
-    ensures { λ r. ⌜ r ≡ blockAt (now (bytes .entry)) at ⌝ }
+    ensures { λ r. ⌜ r ≡ bodyOf 4 (fieldsAt (now (bytes .entry)) 4 at) ⌝ }
 {
     Body::Block(
         bytes[at],
@@ -62,7 +62,7 @@ fn block_at(bytes: &[u8], at: usize) -> Body
 
 fn case_at(bytes: &[u8], at: usize) -> Body
     requires { ⌜ at + 3 ≤ length (now bytes) ⌝ }
-    ensures { λ r. ⌜ r ≡ caseAt (now (bytes .entry)) at ⌝ }
+    ensures { λ r. ⌜ r ≡ bodyOf 5 (fieldsAt (now (bytes .entry)) 5 at) ⌝ }
 {
     Body::Case(bytes[at], bytes[at + 1], bytes[at + 2])
 }

@@ -6,11 +6,11 @@ ghost use Prim.Native.Nat.{_≤_};
 ghost use Rattle.sets.specs.Loops.{all};
 ghost use Rattle.reader.specs.Held.{limitsFit, stepsCode, actionsCode, transitionsCode, blockNamesAt, durationFitsAt, untimedFitsAt, blocksCode, casesCode, someInitial, timedTwice, closingCode, heldCode, chartCode};
 use crate::chart::Chart;
-use fields::codes::BAD_FIELD;
 use crate::codes::NO_INITIAL;
 use crate::codes::TIMED_TWICE;
 use crate::codes::TOO_MANY;
 use crate::numbers;
+use fields::codes::BAD_FIELD;
 
 fn limits_fit(steps: usize, actions: usize, transitions: usize, blocks: usize, cases: usize) -> bool
     ensures { λ r. ⌜ r ≡ limitsFit steps actions transitions blocks cases ⌝ }

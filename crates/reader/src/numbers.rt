@@ -3,7 +3,7 @@ ghost use mathlib.Core.Path.{_≡_};
 ghost use Prim.Native.Nat.{_+_, _-_, _≤_, _<_};
 ghost use lib.ListN.{length};
 ghost use mir.Syntax.{w32};
-ghost use mir.Val.{toZ};
+ghost use mir.Val.{toZ, ofZ};
 ghost use Rattle.reader.specs.Numbers.{le, leFrom};
 
 fn byte_at(bytes: &[u8], at: usize) -> u16
@@ -78,6 +78,17 @@ pub fn signed(x: u32) -> i32
     }
     let y = 4294967295 - x;
     !(y as i32)
+}
+
+// The bits of a signed number. A cast may not change a sign, so a negative one goes by its complement.
+pub fn bits_of(v: i32) -> u32
+    ensures { λ r. ⌜ r ≡ ofZ w32 v ⌝ }
+{
+    if v < 0 {
+        let low = !v;
+        return 4294967295 - low as u32;
+    }
+    v as u32
 }
 
 // A byte that names an entry of a table.

@@ -1,9 +1,9 @@
 -- What the record step's answer says: of the record found, that there is one answer, and that the step does not move after the end or a refusal.
-use Prim.Native.Nat.{ℕ, _+_, _-_, _≤_, _<_}
+use Prim.Native.Nat.{ℕ, zero, suc, _+_, _-_, _≤_, _<_}
 use mathlib.Core.List.{List, [], _∷_}
 use mathlib.Core.Bool.{Bool, true, false, _||_, cond}
 use mathlib.Core.Path.{_≡_, refl, sym, _∙_}
-use lib.ListN.{length}
+use lib.ListN.{length, getD}
 use lib.Dec.{leb, eqb}
 use native.Mathlib.Omega.{arith}
 use borrow.Author.Tests.{le-leb, lt-leb, leb-true, eq-eqb, ne-eqb, eqb-true, eqb-false}
@@ -11,6 +11,17 @@ use Rattle.sets.proofs.Loops.{and-true}
 use Rattle.reader.specs.Framing.{lengthAt, kindAt, bodyLength, kindFits, headNumber, recordNumber, recordValues, numberOf, valuesOf, Answers, placeAfter, kindAfter}
 use Rattle.reader.specs.declared.framing.Next.{Next}
 use Rattle.reader.specs.declared.framing.Next.the-variants.{Record, End, Refused}
+
+-- ---- the lengths of the bodies, by kind
+
+pub lengths : (k : ℕ) → getD (0 ∷ 1 ∷ 5 ∷ 36 ∷ 7 ∷ 3 ∷ []) k 0 ≡ bodyLength k
+lengths zero = refl
+lengths (suc zero) = refl
+lengths (suc (suc zero)) = refl
+lengths (suc (suc (suc zero))) = refl
+lengths (suc (suc (suc (suc zero)))) = refl
+lengths (suc (suc (suc (suc (suc zero))))) = refl
+lengths (suc (suc (suc (suc (suc (suc k)))))) = refl
 
 -- ---- from the tests to the answer
 
@@ -64,6 +75,18 @@ is-headed s at before e =
   where
     within : (l at n : ℕ) → 4 ≤ l - at → n ≤ l - (at + 4) → at + 4 + n ≤ l
     within l at n h k = omega arith
+
+-- and where they stand, the number is 0
+pub is-record : (s : List ℕ) (at before : ℕ) → kindFits (kindAt s at) before ≡ true → lengthAt s at ≡ bodyLength (kindAt s at) → at + 4 + lengthAt s at ≤ length s → recordNumber s at before ≡ 0
+unfolding recordNumber
+is-record s at before f e w =
+    rw (le-leb 4 (length s - at) (begins (length s) at (lengthAt s at) w), f, eq-eqb (lengthAt s at) (bodyLength (kindAt s at)) e, le-leb (lengthAt s at) (length s - (at + 4)) (ends (length s) at (lengthAt s at) w))
+  where
+    begins : (l at n : ℕ) → at + 4 + n ≤ l → 4 ≤ l - at
+    begins l at n h = omega arith
+
+    ends : (l at n : ℕ) → at + 4 + n ≤ l → n ≤ l - (at + 4)
+    ends l at n h = omega arith
 
 -- the record that was found
 pub record Found (s : List ℕ) (at before k p n : ℕ) : Type 0 where

@@ -19,6 +19,10 @@ le-split (suc a) b s at =
     rw (suc-add, e)
     (shifted (getD s at 0) (le (a + b) s (at + 1)) (le a s (at + 1)) (256 ^ a) (256 ^ suc a) (le b s (at + 1 + a)) (le-split a b s (at + 1)) (omega arith))
 
+-- a number of one byte is that byte
+pub le-one : (s : List ℕ) (at : ℕ) → le 1 s at ≡ getD s at 0
+le-one s at = omega arith
+
 -- a number that is cut, and one that is whole
 pub cut : (w : ℕ) (s : List ℕ) (at : ℕ) → length s - at < w → 0 ≡ leFrom w s at
 cut w s at h = rw (lt-leb w (length s - at) h)

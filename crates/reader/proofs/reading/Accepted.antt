@@ -19,7 +19,7 @@ use Rattle.reader.specs.Reading.{refused, accepted, closed, ended, withB
 use Rattle.reader.specs.declared.bodies.Body.{Body}
 use Rattle.reader.specs.declared.chart.Chart.{Chart}
 use Rattle.reader.specs.declared.reading.Reading.{Reading}
-use Rattle.reader.proofs.framing.Laws.{is-headed, is-known}
+use Rattle.reader.proofs.framing.Laws.{Headed, is-headed, Known, is-known}
 use Rattle.reader.proofs.held.Laws.{Limits}
 use Rattle.reader.proofs.reading.Kept.{Column, Kept, kept-start, kept-step, kept-action, kept-transition, kept-block, kept-case}
 
@@ -47,7 +47,99 @@ pub record Accepted (s : List ℕ) (r : Reading) : Type 0 where
   pub padded : Padded (r .chart)
   pub short : length s ≤ 6436
 
--- ---- at the end
+-- ---- where an accepted reading ends
+
+-- `Inv` holds of the chart that is answered, at a place where the end record stands, and nothing follows it
+pub record Ends (s : List ℕ) (Inv : ℕ → ℕ → Chart → Type 0) (r : Reading) : Type 0 where
+  pub at : ℕ
+  pub before : ℕ
+  pub inv : Inv at before (r .chart)
+  pub headed : Headed s at before
+  pub over : kindAt s at ≡ 0
+  pub size : length s ≡ at + 4
+  pub closing : closingCode (r .chart .steps) (r .chart .blocks) (r .chart .initial) (r .chart .blockaction) (r .chart .qualifier) ≡ 0
+  pub place : r .place ≡ 0
+
+module _ (s : List ℕ) (Inv : ℕ → ℕ → Chart → Type 0) where
+  module _ (at before : ℕ) (c : Chart) (i : Inv at before c) (h : Headed s at before) (o : kindAt s at ≡ 0) where
+    closes : (m : ℕ) → m ≡ closingCode (c .steps) (c .blocks) (c .initial) (c .blockaction) (c .qualifier) → length s ≤ at + 4
+        → closed m c .code ≡ 0 → Ends s Inv (closed m c)
+    closes m e l = go (eqb m 0) refl
+      where
+        go : (t : Bool) → eqb m 0 ≡ t → cond t (accepted c) (refused m 0) .code ≡ 0 → Ends s Inv (cond t (accepted c) (refused m 0))
+        go true q z =
+            let b = h .begins in
+            record { at = at; before = before; inv = i; headed = h; over = o; size = omega arith; closing = sym e ∙ eqb-true _ _ q; place = refl }
+        go false q z = absurd (eqb-false m 0 q z)
+
+    ends : ended (length s) (at + 4) c .code ≡ 0 → Ends s Inv (ended (length s) (at + 4) c)
+    ends = go (ltb (at + 4) (length s)) refl
+      where
+        go : (t : Bool) → ltb (at + 4) (length s) ≡ t → cond t (refused 10 (at + 4)) (closed (closingCode (c .steps) (c .blocks) (c .initial) (c .blockaction) (c .qualifier)) c) .code ≡ 0
+            → Ends s Inv (cond t (refused 10 (at + 4)) (closed (closingCode (c .steps) (c .blocks) (c .initial) (c .blockaction) (c .qualifier)) c))
+        go true e z = let y : _≡_ {A = ℕ} 10 0 = z in absurd (omega arith)
+        go false e z = closes (closingCode (c .steps) (c .blocks) (c .initial) (c .blockaction) (c .qualifier)) refl (ltb-false _ _ e) z
+
+  -- one turn, where reading on is accepted only so
+  module _ (at before : ℕ) (c : Chart) (i : Inv at before c) (onward : Chart → Reading)
+      (so : (d : Chart) → Inv (at + 4 + lengthAt s at) (kindAt s at) d → onward d .code ≡ 0 → Ends s Inv (onward d))
+      (b : Body) (more : Headed s at before → Known s before (kindAt s at) (at + 4) → numberIn c b ≡ 0 → Inv (at + 4 + lengthAt s at) (kindAt s at) (withBody c b)) where
+    body : (t : Bool) → eqb (numberIn c b) 0 ≡ t → 0 ≡ recordNumber s at before → (kindAt s at ≡ 0 → ⊥)
+        → cond t (onward (withBody c b)) (refused (numberIn c b) at) .code ≡ 0 → Ends s Inv (cond t (onward (withBody c b)) (refused (numberIn c b) at))
+    body true e n x z =
+        let h = is-headed s at before n in
+        let w = is-known s at before _ _ _ (record { number = n; headed = h; kind = refl; place = refl; size = refl; some = x }) in
+        so (withBody c b) (more h w (eqb-true (numberIn c b) 0 e)) z
+    body false e n x z = absurd (eqb-false (numberIn c b) 0 e z)
+
+    kind : (t : Bool) → eqb (kindAt s at) 0 ≡ t → 0 ≡ recordNumber s at before
+        → cond t (ended (length s) (at + 4) c) (taken at c b onward) .code ≡ 0 → Ends s Inv (cond t (ended (length s) (at + 4) c) (taken at c b onward))
+    kind true e n z = ends at before c i (is-headed s at before n) (eqb-true _ _ e) z
+    kind false e n z = body (eqb (numberIn c b) 0) refl n (eqb-false _ _ e) z
+
+    head : (t : Bool) → eqb (recordNumber s at before) 0 ≡ t
+        → cond t (cond (eqb (kindAt s at) 0) (ended (length s) (at + 4) c) (taken at c b onward)) (refused (recordNumber s at before) at) .code ≡ 0
+        → Ends s Inv (cond t (cond (eqb (kindAt s at) 0) (ended (length s) (at + 4) c) (taken at c b onward)) (refused (recordNumber s at before) at))
+    head true e z = kind (eqb (kindAt s at) 0) refl (sym (eqb-true _ _ e)) z
+    head false e z = absurd (eqb-false (recordNumber s at before) 0 e z)
+
+  -- `Inv` at the start, and after each accepted record
+  module _ (more : (at before : ℕ) (c : Chart) → Inv at before c → Headed s at before → Known s before (kindAt s at) (at + 4)
+      → numberIn c (bodyAt s (kindAt s at) (at + 4)) ≡ 0 → Inv (at + 4 + lengthAt s at) (kindAt s at) (withBody c (bodyAt s (kindAt s at) (at + 4)))) where
+    reads : (f at before : ℕ) (c : Chart) → Inv at before c → readFrom f s at before c .code ≡ 0 → Ends s Inv (readFrom f s at before c)
+    unfolding readFrom
+    reads zero at before c i z = let y : _≡_ {A = ℕ} 1 0 = z in absurd (omega arith)
+    reads (suc f) at before c i z =
+        head at before c i (readFrom f s (at + 4 + lengthAt s at) (kindAt s at)) (λ d o y. reads f (at + 4 + lengthAt s at) (kindAt s at) d o y)
+        (bodyAt s (kindAt s at) (at + 4)) (more at before c i) (eqb (recordNumber s at before) 0) refl z
+
+    pub read-ends : Inv 0 0 noChart → readChart s .code ≡ 0 → Ends s Inv (readChart s)
+    read-ends i z = reads (length s + 1) 0 0 noChart i z
+
+-- ---- what is kept to the end
+
+-- what holds of each kind that has a body
+pub by-kind : (P : ℕ → Type 0) → P 1 → P 2 → P 3 → P 4 → P 5 → (k : ℕ) → 1 ≤ k → k ≤ 5 → P k
+by-kind P a b c d e zero l m = absurd (omega arith)
+by-kind P a b c d e (suc zero) l m = a
+by-kind P a b c d e (suc (suc zero)) l m = b
+by-kind P a b c d e (suc (suc (suc zero))) l m = c
+by-kind P a b c d e (suc (suc (suc (suc zero)))) l m = d
+by-kind P a b c d e (suc (suc (suc (suc (suc zero))))) l m = e
+by-kind P a b c d e (suc (suc (suc (suc (suc (suc k)))))) l m = absurd (omega arith)
+
+pub kept-on : (s : List ℕ) (at before : ℕ) (c : Chart) → Kept at before c → Headed s at before → Known s before (kindAt s at) (at + 4)
+    → numberIn c (bodyAt s (kindAt s at) (at + 4)) ≡ 0 → Kept (at + 4 + lengthAt s at) (kindAt s at) (withBody c (bodyAt s (kindAt s at) (at + 4)))
+unfolding bodyAt
+kept-on s at before c h g w =
+    rw (g .sized)
+    (by-kind (λ k. before ≤ k → numberIn c (bodyAt s k (at + 4)) ≡ 0 → Kept (at + 4 + bodyLength k) k (withBody c (bodyAt s k (at + 4))))
+    (kept-step at before c h _)
+    (kept-action at before c h _ _)
+    (kept-transition at before c h _ _ _ _ _)
+    (kept-block at before c h _ _ _ _)
+    (kept-case at before c h _ _ _)
+    (kindAt s at) (w .least) (w .most) (w .later))
 
 both-zero : {a b : ℕ} → a ≡ 0 → b ≡ 0 → orElse a b ≡ 0
 both-zero {a} {b} e f = rw (e) f
@@ -81,84 +173,14 @@ padding at before c k = record {
   expected = k .expected;
 }
 
-module _ (s : List ℕ) (at before : ℕ) (c : Chart) (k : Kept at before c) where
-  closes : (m : ℕ) → m ≡ closingCode (c .steps) (c .blocks) (c .initial) (c .blockaction) (c .qualifier) → length s ≤ at + 4
-      → closed m c .code ≡ 0 → Accepted s (closed m c)
-  closes m e l = go (eqb m 0) refl
-    where
-      go : (t : Bool) → eqb m 0 ≡ t → cond t (accepted c) (refused m 0) .code ≡ 0 → Accepted s (cond t (accepted c) (refused m 0))
-      go true q z =
-          let b = k .size in
-          let h = k .limits in
-          record { place = refl; passes = held-zero at before c k (sym e ∙ eqb-true _ _ q); padded = padding at before c k; short = omega arith }
-      go false q z = absurd (eqb-false m 0 q z)
-
-  ends : ended (length s) (at + 4) c .code ≡ 0 → Accepted s (ended (length s) (at + 4) c)
-  ends = go (ltb (at + 4) (length s)) refl
-    where
-      go : (t : Bool) → ltb (at + 4) (length s) ≡ t → cond t (refused 10 (at + 4)) (closed (closingCode (c .steps) (c .blocks) (c .initial) (c .blockaction) (c .qualifier)) c) .code ≡ 0
-          → Accepted s (cond t (refused 10 (at + 4)) (closed (closingCode (c .steps) (c .blocks) (c .initial) (c .blockaction) (c .qualifier)) c))
-      go true e z = let y : _≡_ {A = ℕ} 10 0 = z in absurd (omega arith)
-      go false e z = closes (closingCode (c .steps) (c .blocks) (c .initial) (c .blockaction) (c .qualifier)) refl (ltb-false _ _ e) z
-
--- ---- one record more
-
--- what holds of each kind that has a body
-by-kind : (P : ℕ → Type 0) → P 1 → P 2 → P 3 → P 4 → P 5 → (k : ℕ) → 1 ≤ k → k ≤ 5 → P k
-by-kind P a b c d e zero l m = absurd (omega arith)
-by-kind P a b c d e (suc zero) l m = a
-by-kind P a b c d e (suc (suc zero)) l m = b
-by-kind P a b c d e (suc (suc (suc zero))) l m = c
-by-kind P a b c d e (suc (suc (suc (suc zero)))) l m = d
-by-kind P a b c d e (suc (suc (suc (suc (suc zero))))) l m = e
-by-kind P a b c d e (suc (suc (suc (suc (suc (suc k)))))) l m = absurd (omega arith)
-
-kept-on : (s : List ℕ) (at before : ℕ) (c : Chart) → Kept at before c → (k : ℕ) → 1 ≤ k → k ≤ 5 → before ≤ k
-    → numberIn c (bodyAt s k (at + 4)) ≡ 0 → Kept (at + 4 + bodyLength k) k (withBody c (bodyAt s k (at + 4)))
-unfolding bodyAt
-kept-on s at before c h =
-    by-kind (λ k. before ≤ k → numberIn c (bodyAt s k (at + 4)) ≡ 0 → Kept (at + 4 + bodyLength k) k (withBody c (bodyAt s k (at + 4))))
-    (kept-step at before c h _)
-    (kept-action at before c h _ _)
-    (kept-transition at before c h _ _ _ _ _)
-    (kept-block at before c h _ _ _ _)
-    (kept-case at before c h _ _ _)
-
--- ---- the whole reading
-
--- one turn, where reading on is accepted only so
-module _ (s : List ℕ) (at before : ℕ) (c : Chart) (k : Kept at before c) (onward : Chart → Reading)
-    (so : (d : Chart) → Kept (at + 4 + lengthAt s at) (kindAt s at) d → onward d .code ≡ 0 → Accepted s (onward d))
-    (b : Body) (q : b ≡ bodyAt s (kindAt s at) (at + 4)) where
-  body : (t : Bool) → eqb (numberIn c b) 0 ≡ t → 0 ≡ recordNumber s at before → (kindAt s at ≡ 0 → ⊥)
-      → cond t (onward (withBody c b)) (refused (numberIn c b) at) .code ≡ 0 → Accepted s (cond t (onward (withBody c b)) (refused (numberIn c b) at))
-  body true e n x z =
-      let h = is-headed s at before n in
-      let w = is-known s at before _ _ _ (record { number = n; headed = h; kind = refl; place = refl; size = refl; some = x }) in
-      let o = kept-on s at before c k (kindAt s at) (w .least) (w .most) (w .later) (rw q at (eqb-true (numberIn c b) 0 e)) in
-      so (withBody c b) (rw (← h .sized, ← q) at o) z
-  body false e n x z = absurd (eqb-false (numberIn c b) 0 e z)
-
-  kind : (t : Bool) → eqb (kindAt s at) 0 ≡ t → 0 ≡ recordNumber s at before
-      → cond t (ended (length s) (at + 4) c) (taken at c b onward) .code ≡ 0 → Accepted s (cond t (ended (length s) (at + 4) c) (taken at c b onward))
-  kind true e n z = ends s at before c k z
-  kind false e n z = body (eqb (numberIn c b) 0) refl n (eqb-false _ _ e) z
-
-  head : (t : Bool) → eqb (recordNumber s at before) 0 ≡ t
-      → cond t (cond (eqb (kindAt s at) 0) (ended (length s) (at + 4) c) (taken at c b onward)) (refused (recordNumber s at before) at) .code ≡ 0
-      → Accepted s (cond t (cond (eqb (kindAt s at) 0) (ended (length s) (at + 4) c) (taken at c b onward)) (refused (recordNumber s at before) at))
-  head true e z = kind (eqb (kindAt s at) 0) refl (sym (eqb-true _ _ e)) z
-  head false e z = absurd (eqb-false (recordNumber s at before) 0 e z)
-
-reads : (f : ℕ) (s : List ℕ) (at before : ℕ) (c : Chart) → Kept at before c → readFrom f s at before c .code ≡ 0 → Accepted s (readFrom f s at before c)
-unfolding readFrom
-reads zero s at before c k z = let y : _≡_ {A = ℕ} 1 0 = z in absurd (omega arith)
-reads (suc f) s at before c k z =
-    head s at before c k (readFrom f s (at + 4 + lengthAt s at) (kindAt s at)) (λ d o y. reads f s (at + 4 + lengthAt s at) (kindAt s at) d o y)
-    (bodyAt s (kindAt s at) (at + 4)) refl (eqb (recordNumber s at before) 0) refl z
-
 pub read-accepted : (s : List ℕ) → readChart s .code ≡ 0 → Accepted s (readChart s)
-read-accepted s z = reads (length s + 1) s 0 0 noChart kept-start z
+read-accepted s z =
+    let e = read-ends s Kept (kept-on s) kept-start z in
+    let k = e .inv in
+    let b = k .size in
+    let h = k .limits in
+    let n = e .size in
+    record { place = e .place; passes = held-zero _ _ _ k (e .closing); padded = padding _ _ _ k; short = omega arith }
 
 -- ---- a refused reading
 

@@ -33,11 +33,11 @@ module _ {A : Type 0} (d : A) where
   column-start : (limit : ℕ) → Column d limit 0 (replicate limit d)
   column-start limit = record { long = length-replicate limit d; rest = λ i h. blank limit i }
 
-  older : (l : List A) (n : ℕ) (v : A) (i : ℕ) → i < n → getD (set l n v) i d ≡ getD l i d
+  pub older : (l : List A) (n : ℕ) (v : A) (i : ℕ) → i < n → getD (set l n v) i d ≡ getD l i d
   older l n v i h = getD-set-other l n i v d (λ e. omega arith)
 
   module _ (limit n : ℕ) (l : List A) (v : A) (c : Column d limit n l) (h : n < limit) where
-    newest : getD (set l n v) n d ≡ v
+    pub newest : getD (set l n v) n d ≡ v
     newest = let e = c .long in getD-set-same l n v d (omega arith)
 
     column-more : Column d limit (n + 1) (set l n v)

@@ -7,6 +7,7 @@ use mir.Val.{toZ}
 use mir.Facts.{toZ-ofZ}
 use borrow.Author.Needs.{sfits-of, needs}
 use Rattle.reader.specs.declared.bodies.Body.the-variants.{Action}
+use Rattle.reader.proofs.bodies.Laws.{action-fields}
 use Rattle.reader.proofs.bodies.action_at.Statement.{statement}
 use Rattle.reader.proofs.bodies.action_at.Tie as tie
 
@@ -25,8 +26,9 @@ signed-requires c κs = search needs
 returns : tie.Need-returns
 returns c =
     let a = c .before .before .before .before .args in
-    ap (Action (getD (now (a .bytes)) (a .at) 0))
-    (toZ-ofZ {w = w32} (sfits-of (c .signed .ok)) ∙ c .signed .ensures ∙ ap (toZ w32) (c .before .u32-at .ensures))
+    rw (action-fields (now (a .bytes)) (a .at))
+    (ap (Action (getD (now (a .bytes)) (a .at) 0))
+    (toZ-ofZ {w = w32} (sfits-of (c .signed .ok)) ∙ c .signed .ensures ∙ ap (toZ w32) (c .before .u32-at .ensures)))
 
 pub action-at-spec : {M : Type 1} → statement M
 action-at-spec =

@@ -10,8 +10,8 @@ use mir.Syntax.{w32}
 use mir.Val.{Fits, SFits, toZ, ofZ}
 use mir.Facts.{toZ-ofZ, toZ-pos}
 use borrow.Author.Tests.{ltb-true}
-use Rattle.engine.proofs.image.bits_of.Statement.{statement}
-use Rattle.engine.proofs.image.bits_of.Tie as tie
+use Rattle.reader.proofs.numbers.bits_of.Statement.{statement}
+use Rattle.reader.proofs.numbers.bits_of.Tie as tie
 
 -- What `!v` reads as where v is negative.
 flipped : (v : ℤ) → SFits w32 v → ltZ v (pos 0) ≡ true → toZ w32 (4294967295 - ofZ w32 v) ≡ pos (mag v)

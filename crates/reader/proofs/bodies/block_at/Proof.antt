@@ -1,0 +1,45 @@
+-- Three bytes and a number, at their places.
+use denote.Ref.{now}
+use borrow.Author.Needs.{needs}
+use Rattle.reader.proofs.bodies.Laws.{block-fields}
+use Rattle.reader.proofs.bodies.block_at.Statement.{statement}
+use Rattle.reader.proofs.bodies.block_at.Tie as tie
+
+shared-slice-read-t4 : tie.Need-shared-slice-read-t4
+shared-slice-read-t4 c = search needs
+
+add-t5 : tie.Need-add-t5
+add-t5 c = search needs
+
+shared-slice-read-t7 : tie.Need-shared-slice-read-t7
+shared-slice-read-t7 c = search needs
+
+add-t8 : tie.Need-add-t8
+add-t8 c = search needs
+
+shared-slice-read-t10 : tie.Need-shared-slice-read-t10
+shared-slice-read-t10 c = search needs
+
+add-u32-at : tie.Need-add-u32-at
+add-u32-at c = search needs
+
+u32-at-requires : tie.Need-u32-at-requires
+u32-at-requires c κs = search needs
+
+returns : tie.Need-returns
+returns c =
+    let a = c .before .before .before .before .before .args in
+    rw (block-fields (now (a .bytes)) (a .at)) (search needs)
+
+pub block-at-spec : {M : Type 1} → statement M
+block-at-spec =
+    tie.close
+    (tie.spec
+    shared-slice-read-t4
+    add-t5
+    shared-slice-read-t7
+    add-t8
+    shared-slice-read-t10
+    add-u32-at
+    u32-at-requires
+    returns)
