@@ -1,0 +1,6 @@
+pub mod Examples
+pub mod One
+pub mod ReadBack
+pub mod Standing
+pub mod Unique
+pub mod WriteBack

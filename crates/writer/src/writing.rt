@@ -1,0 +1,189 @@
+// A chart's file: the records of each kind, then the end record. One pass over each kind's tables, which the chart lends.
+ghost use mathlib.Core.Path.{_≡_};
+ghost use mathlib.Core.List.{List};
+ghost use Prim.Native.Nat.{ℕ, _+_, _*_, _≤_};
+ghost use lib.ListN.{length};
+ghost use Rattle.sets.specs.Bytes.{Put};
+ghost use Rattle.writer.specs.Writing.{stepIn, actionIn, transitionIn, blockIn, caseIn, records, fileLength, refused, writeChart};
+ghost use Rattle.writer.specs.declared.writing.Writing.{Writing};
+use crate::codes::TOO_FEW_BYTES;
+use crate::records;
+use reader::Chart;
+
+pub struct Writing {
+    pub code: u8,
+    pub length: usize,
+}
+
+fn refused(code: u8) -> Writing
+    ensures { λ r. ⌜ r ≡ refused code ⌝ }
+{
+    Writing { code, length: 0 }
+}
+
+fn put_steps(bytes: &mut [u8], at: usize, n: usize, initial: &[u8; 64]) -> usize
+    requires { ⌜ (n ≤ 64) × (at + 5 * n ≤ length (now bytes)) ⌝ }
+    ensures { λ r. ⌜ Put (now (bytes .entry)) at (records (stepIn (now (initial .entry))) n) (now (bytes .exit)) r ⌝ }
+{
+    let mut end = at;
+    let mut i = 0;
+    while i < n {
+        end = records::put_step(bytes, end, initial[i]);
+        i += 1;
+    }
+    end
+}
+
+fn put_actions<'a>(
+    bytes: &mut [u8],
+    at: usize,
+    n: usize,
+    output: &'a [u8; 32],
+    value: &'a [i32; 32],
+) -> usize
+    requires { ⌜ (n ≤ 32) × (at + 9 * n ≤ length (now bytes)) ⌝ }
+    ensures { λ r. ⌜ Put (now (bytes .entry)) at (records (actionIn (now (output .entry)) (now (value .entry))) n) (now (bytes .exit)) r ⌝ }
+{
+    let mut end = at;
+    let mut i = 0;
+    while i < n {
+        end = records::put_action(bytes, end, output[i], value[i]);
+        i += 1;
+    }
+    end
+}
+
+fn put_transitions<'a>(
+    bytes: &mut [u8],
+    at: usize,
+    n: usize,
+    sources: &'a [u64; 64],
+    targets: &'a [u64; 64],
+    on: &'a [u64; 64],
+    off: &'a [u64; 64],
+    wait: &'a [u32; 64],
+) -> usize
+    requires { ⌜ (n ≤ 64) × (at + 40 * n ≤ length (now bytes)) ⌝ }
+    ensures { λ r. ⌜ Put (now (bytes .entry)) at (records (transitionIn (now (sources .entry)) (now (targets .entry)) (now (on .entry)) (now (off .entry)) (now (wait .entry))) n) (now (bytes .exit)) r ⌝ }
+{
+    let mut end = at;
+    let mut i = 0;
+    while i < n {
+        end = records::put_transition(bytes, end, sources[i], targets[i], on[i], off[i], wait[i]);
+        i += 1;
+    }
+    end
+}
+
+fn put_blocks<'a>(
+    bytes: &mut [u8],
+    at: usize,
+    n: usize,
+    blockstep: &'a [u8; 256],
+    blockaction: &'a [u8; 256],
+    qualifier: &'a [u8; 256],
+    duration: &'a [u32; 256],
+) -> usize
+    requires { ⌜ (n ≤ 256) × (at + 11 * n ≤ length (now bytes)) ⌝ }
+    ensures { λ r. ⌜ Put (now (bytes .entry)) at (records (blockIn (now (blockstep .entry)) (now (blockaction .entry)) (now (qualifier .entry)) (now (duration .entry))) n) (now (bytes .exit)) r ⌝ }
+{
+    let mut end = at;
+    let mut i = 0;
+    while i < n {
+        end = records::put_block(
+            bytes,
+            end,
+            blockstep[i],
+            blockaction[i],
+            qualifier[i],
+            duration[i],
+        );
+        i += 1;
+    }
+    end
+}
+
+fn put_cases<'a>(
+    bytes: &mut [u8],
+    at: usize,
+    n: usize,
+    casestep: &'a [u8; 64],
+    signal: &'a [u8; 64],
+    expected: &'a [u8; 64],
+) -> usize
+    requires { ⌜ (n ≤ 64) × (at + 7 * n ≤ length (now bytes)) ⌝ }
+    ensures { λ r. ⌜ Put (now (bytes .entry)) at (records (caseIn (now (casestep .entry)) (now (signal .entry)) (now (expected .entry))) n) (now (bytes .exit)) r ⌝ }
+{
+    let mut end = at;
+    let mut i = 0;
+    while i < n {
+        end = records::put_case(bytes, end, casestep[i], signal[i], expected[i]);
+        i += 1;
+    }
+    end
+}
+
+fn file_length(
+    steps: usize,
+    actions: usize,
+    transitions: usize,
+    blocks: usize,
+    cases: usize,
+) -> usize
+    requires { ⌜ (steps ≤ 64) × (actions ≤ 32) × (transitions ≤ 64) × (blocks ≤ 256) × (cases ≤ 64) ⌝ }
+    ensures { λ r. ⌜ r ≡ fileLength steps actions transitions blocks cases ⌝ }
+{
+    5 * steps + 9 * actions + 40 * transitions + 11 * blocks + 7 * cases + 4
+}
+
+pub fn write_chart(chart: Chart, bytes: &mut [u8]) -> Writing
+    ensures { λ r. ⌜ _≡_ {A = Writing × List ℕ} (r, now (bytes .exit)) (writeChart chart (now (bytes .entry))) ⌝ }
+{
+    let code = reader::chart_code(chart);
+    if code != 0 {
+        return refused(code);
+    }
+    let length = file_length(
+        chart.steps,
+        chart.actions,
+        chart.transitions,
+        chart.blocks,
+        chart.cases,
+    );
+    if bytes.len() < length {
+        return refused(TOO_FEW_BYTES);
+    }
+    let actions = put_steps(bytes, 0, chart.steps, &chart.initial);
+    let transitions = put_actions(bytes, actions, chart.actions, &chart.output, &chart.value);
+    let blocks = put_transitions(
+        bytes,
+        transitions,
+        chart.transitions,
+        &chart.sources,
+        &chart.targets,
+        &chart.on,
+        &chart.off,
+        &chart.wait,
+    );
+    let cases = put_blocks(
+        bytes,
+        blocks,
+        chart.blocks,
+        &chart.blockstep,
+        &chart.blockaction,
+        &chart.qualifier,
+        &chart.duration,
+    );
+    let end = put_cases(
+        bytes,
+        cases,
+        chart.cases,
+        &chart.casestep,
+        &chart.signal,
+        &chart.expected,
+    );
+    Writing {
+        code: 0,
+        length: records::put_end(bytes, end),
+    }
+}
