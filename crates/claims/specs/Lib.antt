@@ -10,3 +10,4 @@ pub mod Sums
 pub mod Tally
 pub mod Unique
 pub mod Weights
+pub mod Written

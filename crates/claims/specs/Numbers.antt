@@ -38,7 +38,7 @@ use Rattle.tally.specs.declared.weighing.Weighed.{Weighed}
 -- ---- an answer by its number
 
 -- an answer chosen by its number has that number
-picked : {A : Type 0} (code : A → ℕ) (n : ℕ) (x y : A) → code x ≡ 0 → code y ≡ n → code (cond (eqb n 0) x y) ≡ n
+pub picked : {A : Type 0} (code : A → ℕ) (n : ℕ) (x y : A) → code x ≡ 0 → code y ≡ n → code (cond (eqb n 0) x y) ≡ n
 picked code n x y e f = go (eqb n 0) refl
   where
     go : (b : Bool) → eqb n 0 ≡ b → code (cond b x y) ≡ n
@@ -46,7 +46,7 @@ picked code n x y e f = go (eqb n 0) refl
     go false h = f
 
 -- one whose number is not 0 is the refusal
-refused-one : {A : Type 0} (code : A → ℕ) (n : ℕ) (x y : A) → code x ≡ 0 → (code (cond (eqb n 0) x y) ≡ 0 → ⊥) → cond (eqb n 0) x y ≡ y
+pub refused-one : {A : Type 0} (code : A → ℕ) (n : ℕ) (x y : A) → code x ≡ 0 → (code (cond (eqb n 0) x y) ≡ 0 → ⊥) → cond (eqb n 0) x y ≡ y
 refused-one code n x y e = go (eqb n 0)
   where
     go : (b : Bool) → (code (cond b x y) ≡ 0 → ⊥) → cond b x y ≡ y

@@ -35,6 +35,9 @@ use Rattle.cycle.proofs.Unique.{belongs-unique, start-unique, cycle-unique, cyc
 use Rattle.tally.specs.Tallying.{tallyOf}
 use Rattle.tally.specs.Weighing.{weighOf}
 use Rattle.trace.specs.Tracing.{callAt, numberOf, traceNumber}
+use Rattle.writer.specs.Writing.{writeChart}
+use Rattle.writer.specs.declared.writing.Writing.{Writing}
+use Rattle.writer.proofs.Unique.{write-chart-unique}
 use Rattle.report.specs.Printing.{opening, printedOf, lineAfter}
 use Rattle.tally.specs.declared.tallying.Tallied.{Tallied}
 use Rattle.tally.specs.declared.weighing.Weighed.{Weighed}
@@ -118,6 +121,10 @@ pub record TallyUnique : Type 0 where
   pub tally : (chart : Chart) (run : Run) → One (λ (r : Tallied). r ≡ tallyOf chart run)
   pub weigh : (chart : Chart) (weights : List ℕ) → One (λ (r : Weighed). r ≡ weighOf chart weights)
 
+-- writer/src: writing
+pub record WriterUnique : Type 0 where
+  pub write-chart : (chart : Chart) (bytes : List ℕ) → One (λ (r : Writing × List ℕ). r ≡ writeChart chart bytes)
+
 -- report/src: printing
 pub record ReportUnique : Type 0 where
   pub opening : One (λ (r : Standing). r ≡ opening)
@@ -131,6 +138,7 @@ pub record Unique : Type 0 where
   pub cycle : CycleUnique
   pub trace : TraceUnique
   pub tally : TallyUnique
+  pub writer : WriterUnique
   pub report : ReportUnique
 
 pub unique : Unique
@@ -186,6 +194,7 @@ unique = record {
   };
   trace = record { call-at = call-at-unique };
   tally = record { tally = tally-unique; weigh = weigh-unique };
+  writer = record { write-chart = write-chart-unique };
   report = record {
     opening = opening-unique;
     print-next = λ code chart trace standing line r q f g. print-next-unique code chart trace standing line f g r q;
