@@ -1,11 +1,12 @@
 #!/usr/bin/env python3
-"""The engine against a second implementation of document 01 (tests/second.rs), on random charts, traces and held images.
+"""The engine against a second implementation of document 01 and of request (i) (tests/second.rs), on random charts, traces and
+held images.
 
   tests/compare.py [--seed N] [--cases N]
 
 Run it after `rt check`, which builds the programs. bench_run prints one run for each of N random charts and traces, held_calls
-answers 5 N calls on random images, and read_charts reads 2 N faulty files; the second implementation does the same, and all that
-they write must be equal. A case depends on the seed and its own number alone. What the cases reached is counted from what was
+answers 5 N calls on random images and N writings of images with junk beyond their counts, read_charts reads 2 N faulty files, and
+write_back writes N files back; the second implementation does the same, and all that they write must be equal. A case depends on the seed and its own number alone. What the cases reached is counted from what was
 written, and a run that did not reach each thing in NEEDED fails, since its equal answers say nothing of that.
 """
 import argparse
@@ -31,13 +32,14 @@ TIMED, UNTIMED = (L, D, SD, DS, SL), (N, R, S, P, P1, P0)
 TURN = 2**32
 RUN_NAMES = [name for name, _, _ in held.RUN]
 NEEDED = (
-    [f"refused {code}" for code in range(1, 17)]
+    [f"refused {code}" for code in range(1, 18)]
     + [f"{NAMES[q]} active" for q in range(11) if q != R] + [f"{NAMES[q]} not active" for q in TIMED + (P, P1)] + ["R resets"]
     + ["P at entering", "P at leaving", "transitions taken", "forks taken", "joins taken", "two taken in one call"]
     + [f"{NAMES[q]} {when}" for q in TIMED for when in ("at its duration", "one ms before")]
     + ["taken at its wait", "not taken one ms before"]
     + [f"{name} {side}" for name, _, _ in held.CHART + held.RUN if name not in ("value", "clock") for side in ("at its limit", "above it")]
     + ["passed", "failed", "not run", "accepted at 60,000 ms", "clock turned", "balanced"]
+    + ["written", "written into its length", "written into more", "one byte too few", "written back", "not written back"]
 )
 
 
@@ -395,6 +397,33 @@ def held_case(seed, number):
         image, run_image, kind, clock, inputs_for(rng, chart, wanted), lent, weights)
 
 
+def with_junk(rng, image):
+    """Anything in the entries beyond the counts, in some of the tables or in all."""
+    for count, form, names in held.KINDS.values():
+        for name, field in zip(names, form[1:]):
+            for k in range(image[count][0], len(image[name])) if rng.random() < 0.8 else ():
+                image[name][k] = rng.randint(*{"B": (0, 255), "i": (-(2**31), 2**31 - 1), "I": (0, 2**32 - 1), "Q": (0, 2**64 - 1)}[field])
+    return image
+
+
+def writing_case(seed, number):
+    """A chart's file and how many bytes are lent, and the request: an image with junk beyond its counts, in some one field altered too."""
+    rng = random.Random(f"writing {seed} {number}")
+    chart = random_chart(rng)
+    file = b"".join(records(chart))
+    image = with_junk(rng, held.chart_image(file))
+    if rng.random() < 0.15:
+        alter_image(rng, held.CHART, image, [len(chart[kind]) for kind in chart])
+    lent = rng.choice((len(file),) * 3 + (len(file) - 1, len(file) + 1, len(file) + rng.randint(2, 300), rng.randrange(len(file)), 0, 6436))
+    return len(file), lent, held.request(image, held.empty(held.RUN), held.WRITING, lent)
+
+
+def back_case(seed, number):
+    rng = random.Random(f"back {seed} {number}")
+    chart = random_chart(rng)
+    return b"".join(records(chart)) if rng.random() < 0.8 else faulty_file(rng, chart)[:65535]
+
+
 # What was reached
 
 def bits(number):
@@ -571,11 +600,32 @@ def compare_held(seed, many, second, reached):
         count_held(reached, *case, line)
 
 
+def compare_written(seed, many, second, reached):
+    """A held chart written: by the number of lent bytes where nothing else refuses it."""
+    cases = [writing_case(seed, number) for number in range(many)]
+    lines = compare_lines(seed, "held_calls", second, "held", [(request, request) for *_, request in cases])
+    for (size, lent, _), line in zip(cases, lines):
+        code, length = map(int, line.split()[:2])
+        reached[f"refused {code}" if code else "written"] += 1
+        reached["one byte too few"] += code == 17 and lent == size - 1
+        reached["written into its length"] += code == 0 and lent == length
+        reached["written into more"] += code == 0 and lent > length
+
+
+def compare_files(seed, name, second, mode, files):
+    """Files through a program that takes their lengths in two bytes; the second implementation takes them in four."""
+    return compare_lines(seed, name, second, mode, [(struct.pack("<H", len(file)) + file, struct.pack("<I", len(file)) + file) for file in files])
+
+
 def compare_read(seed, many, second, reached):
-    files = [read_case(seed, number) for number in range(many)]
-    cases = [(struct.pack("<H", len(file)) + file, struct.pack("<I", len(file)) + file) for file in files]
-    for line in compare_lines(seed, "read_charts", second, "read", cases):
+    for line in compare_files(seed, "read_charts", second, "read", [read_case(seed, number) for number in range(many)]):
         reached["files read" if line.startswith(b"0 ") else f"refused {line.split()[0].decode()}"] += 1
+
+
+def compare_back(seed, many, second, reached):
+    files = [back_case(seed, number) for number in range(many)]
+    for file, line in zip(files, compare_files(seed, "write_back", second, "back", files)):
+        reached["written back" if line == b"0 %d same" % len(file) else "not written back"] += 1
 
 
 def main():
@@ -586,14 +636,17 @@ def main():
     with tempfile.TemporaryDirectory() as folder:
         second = build_second(folder)
         compare_read(asked.seed, 2 * asked.cases, second, reached)
+        compare_back(asked.seed, asked.cases, second, reached)
         compare_held(asked.seed, 5 * asked.cases, second, reached)
+        compare_written(asked.seed, asked.cases, second, reached)
         compare_printed(asked.seed, asked.cases, second, reached)
     counts = "; ".join(f"{name}: {reached[name]}" for name in [*NEEDED, *sorted(set(reached) - set(NEEDED))])
     print(textwrap.fill(counts, 140, break_long_words=False))
     missing = [name for name in NEEDED if not reached[name]]
     if missing:
         sys.exit(f"compare: seed {asked.seed} never reached: {', '.join(missing)}")
-    print(f"compare: seed {asked.seed}, no difference in {2 * asked.cases} files read, {5 * asked.cases} held calls, {asked.cases} printed runs")
+    print(f"compare: seed {asked.seed}, no difference in {2 * asked.cases} files read, {asked.cases} written back, {5 * asked.cases} held calls, "
+          f"{asked.cases} held charts written, {asked.cases} printed runs")
 
 
 if __name__ == "__main__":

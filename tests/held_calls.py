@@ -4,22 +4,23 @@
   tests/held_calls.py           write crates/held_calls/stdin and stdout
   tests/held_calls.py --check   say whether they are what this file says
 
-Each case is an image of a chart, an image of a run and a call, and its line. The lines are derived from document 01 by hand;
+Each case is an image of a chart, an image of a run and a call, and its line. The lines are derived from documents 01 and 02 by hand;
 nothing here runs the engine. tests/compare.py makes its images with the functions below.
 
 Images, the least byte of each number first: every field of the chart and of the run in full length, as the tables CHART and RUN
-have them. The call: kind (0 start, 1 cycle, 2 tally, 3 weighing), clock, inputs, number of lent outputs, number of weights, and
-the weights. Before the call lent output k holds 1000 + k. A line of start or cycle: code, transitions taken, clock, active,
-activity, stored, latched, good, bad, 64 step counters, 32 action timers, the lent outputs; of a tally: code, passed, failed, not
-run; of a weighing: code, transition, total.
+have them. The call: kind (0 start, 1 cycle, 2 tally, 3 weighing, 4 writing), clock, inputs, number of lent outputs, number of
+weights, and the weights; of a writing, the clock is the number of lent bytes. Before the call lent output k holds 1000 + k, and
+lent byte k holds k % 251. A line of start or cycle: code, transitions taken, clock, active, activity, stored, latched, good, bad,
+64 step counters, 32 action timers, the lent outputs; of a tally: code, passed, failed, not run; of a weighing: code, transition,
+total; of a writing: code, length, the lent bytes.
 """
 import struct
 import sys
 
 sys.dont_write_bytecode = True  # leave no folder beside read_charts.py
-from read_charts import CHART_A, DAY, store  # noqa: E402
+from read_charts import CHART_A, DAY, END, action, case, step, store  # noqa: E402
 
-START, CYCLE, TALLY, WEIGHING = range(4)
+START, CYCLE, TALLY, WEIGHING, WRITING = range(5)
 LIMITS = {"steps": 64, "actions": 32, "transitions": 64, "blocks": 256, "cases": 64}
 
 # name, form, how many
@@ -127,6 +128,13 @@ def weighing(line, weights, chart=NONE):
     CASES.append((request(altered(A, chart), STILL, WEIGHING, weights=weights), line))
 
 
+def writing(code, lent, file=b"", chart=NONE):
+    """The file stands at the front of the lent bytes, and those behind it stay; a refusal leaves them all."""
+    left = [k % 251 for k in range(lent)]
+    text = " ".join(map(str, [code, len(file), *file, *left[len(file):]]))
+    CASES.append((request(altered(A, chart), STILL, WRITING, clock=lent), text))
+
+
 # The printed run of chart A, call by call; step 0 has no active action, step 1 drives output 0 by action 0, value 120
 start(line(0, 0, BEGUN, driven=NONE))
 cycle(line(0, 1, IN_1, driven={0: 120}))
@@ -188,6 +196,29 @@ weighing("14 1 0", [3, 1, 3], {"steps": 3, ("targets", 0): 4, ("sources", 1): 4,
 weighing("13 0 0", [1])
 weighing("13 0 0", [])
 weighing("13 0 0", [1] * 255)
+
+# a chart written back: chart A's 152 bytes, into as many and into more
+writing(0, 152, CHART_A)
+writing(0, 153, CHART_A)
+writing(0, 7000, CHART_A)
+# 17 "when the lent bytes are fewer than the chart's length, nothing written", after the chart's own
+for lent in (151, 5, 1, 0):
+    writing(17, lent)
+for code, chart in {
+    4: {"blocks": 257}, 5: {("casestep", 0): 2}, 6: {("targets", 1): 0}, 7: {("off", 0): 1}, 9: {("initial", 0): 0},
+    8: {("qualifier", 1): 3, ("qualifier", 2): 8},
+}.items():
+    writing(code, 0, chart=chart)
+    writing(code, 152, chart=chart)
+# entries beyond a count are not written
+writing(0, 160, CHART_A, {("initial", 2): 255, ("output", 2): 32, ("value", 31): -1, ("sources", 2): 2**64 - 1, ("wait", 63): DAY + 1,
+                          ("qualifier", 3): 11, ("duration", 255): 2**32 - 1, ("casestep", 1): 2, ("expected", 63): 9})
+# a chart of two steps alone, and one with an action and a case more; numbers are little-endian, values signed
+FEW = {"actions": 0, "transitions": 0, "blocks": 0, "cases": 0}
+writing(0, 14, step(1) + step(0) + END, FEW)
+writing(17, 13, chart=FEW)
+writing(0, 40, step(1) + step(0) + action(31, -2) + case(1, 32, 0) + END,
+        FEW | {"actions": 1, "cases": 1, ("output", 0): 31, ("value", 0): -2, ("signal", 0): 32, ("expected", 0): 0})
 
 if __name__ == "__main__":
     assert len(CASES[0][0]) == 4552 + 436 + 11

@@ -1,6 +1,8 @@
-// A second engine for the chart, its cycle and its tally, written from document 01 alone.
-// Words in quotation marks above a function are sentences of document 01. A function that only
-// serves the command line says so instead, since document 01 doesn't speak of that.
+// A second engine for the chart, its cycle and its tally, written from document 01 alone, with the
+// writer of charts from request (i) of document 02. No other request of document 02 is followed.
+// Words in quotation marks above a function are sentences of document 01, or of request (i) where
+// that is said. A function that only serves the command line says so instead, since neither speaks
+// of that.
 
 use std::collections::BTreeSet;
 use std::io::{Read, Write};
@@ -136,18 +138,18 @@ fn is_timed(qualifier: Qualifier) -> bool {
     }
 }
 
-#[derive(Clone)]
+#[derive(Clone, PartialEq)]
 struct Step {
     initial: u8,
 }
 
-#[derive(Clone)]
+#[derive(Clone, PartialEq)]
 struct Action {
     output: u8,
     value: i32,
 }
 
-#[derive(Clone)]
+#[derive(Clone, PartialEq)]
 struct Transition {
     sources: Set,
     targets: Set,
@@ -156,7 +158,7 @@ struct Transition {
     wait: u32,
 }
 
-#[derive(Clone)]
+#[derive(Clone, PartialEq)]
 struct Block {
     step: usize,
     action: usize,
@@ -164,7 +166,7 @@ struct Block {
     duration: u32,
 }
 
-#[derive(Clone)]
+#[derive(Clone, PartialEq)]
 struct Case {
     step: usize,
     signal: usize,
@@ -172,7 +174,7 @@ struct Case {
 }
 
 // A chart whose tables end at its counts.
-#[derive(Clone, Default)]
+#[derive(Clone, Default, PartialEq)]
 struct Chart {
     steps: Vec<Step>,
     actions: Vec<Action>,
@@ -984,6 +986,124 @@ fn weight_of(steps: &Set, weights: &[u16]) -> u64 {
 }
 
 // ---------------------------------------------------------------------------------------------
+// The writer (request (i) of document 02)
+// ---------------------------------------------------------------------------------------------
+
+// Request (i): "The answer is the length written" (with the number of refusal; the length is 0 with
+// every refusal)
+#[derive(Clone, Copy, PartialEq)]
+struct Writing {
+    code: Code,
+    length: u64,
+}
+
+// Request (i): "Write a held chart into lent bytes in the form of document 01."; "The answer is the
+// length written; bytes behind it stay."
+fn write_chart(held: &Held, lent: &mut [u8]) -> Writing {
+    match test_writing(held, lent) {
+        Ok(file) => {
+            for (k, byte) in file.iter().enumerate() {
+                put(lent, k, *byte);
+            }
+            Writing { code: 0, length: file.len() as u64 }
+        }
+        Err(code) => Writing { code, length: 0 },
+    }
+}
+
+// Request (i): "Refusals: the chart's own first, then 17 when the lent bytes are fewer than the
+// chart's length, nothing written." (the file to be written if there is no refusal)
+fn test_writing(held: &Held, lent: &[u8]) -> Result<Vec<u8>, Code> {
+    let chart = test_chart(held)?;
+    let file = file_of(&chart);
+    if lent.len() < file.len() {
+        return Err(17);
+    }
+    Ok(file)
+}
+
+// "A file is a run of records"; "Kinds stand in the order 1, 2, 3, 4, 5, then one end record (kind
+// 0, no body) and nothing more."; "each numbered from 0 in file order"
+fn file_of(chart: &Chart) -> Vec<u8> {
+    let mut file = Vec::new();
+    for step in &chart.steps {
+        file.extend(written_step(step));
+    }
+    for action in &chart.actions {
+        file.extend(written_action(action));
+    }
+    for transition in &chart.transitions {
+        file.extend(written_transition(transition));
+    }
+    for block in &chart.blocks {
+        file.extend(written_block(block));
+    }
+    for case in &chart.cases {
+        file.extend(written_case(case));
+    }
+    file.extend(written_record(0, &[]));
+    file
+}
+
+// "all little-endian" (the lowest `width` bytes of a number, the lesser first)
+fn little_endian(value: u64, width: usize) -> Vec<u8> {
+    value.to_le_bytes().iter().take(width).copied().collect()
+}
+
+// "a two-byte body length, a two-byte kind, the body" (a body is fields, each a number and its
+// width in bytes)
+fn written_record(kind: u64, fields: &[(u64, usize)]) -> Vec<u8> {
+    let mut body = Vec::new();
+    for (value, width) in fields {
+        body.extend(little_endian(*value, *width));
+    }
+    let mut bytes = little_endian(body.len() as u64, 2);
+    bytes.extend(little_endian(kind, 2));
+    bytes.extend(body);
+    bytes
+}
+
+// "1 step | 1 | 1 initial, 0 not"
+fn written_step(step: &Step) -> Vec<u8> {
+    written_record(1, &[(u64::from(step.initial), 1)])
+}
+
+// "2 action | 5 | output 0..31; value, signed 32 bits"
+fn written_action(action: &Action) -> Vec<u8> {
+    written_record(2, &[(u64::from(action.output), 1), (u64::from(action.value as u32), 4)])
+}
+
+// "3 transition | 36 | sources, targets, on, off (64-bit sets, bit k is number k); wait in ms (32
+// bits)"
+fn written_transition(transition: &Transition) -> Vec<u8> {
+    let fields = [
+        (word_of(&transition.sources), 8),
+        (word_of(&transition.targets), 8),
+        (word_of(&transition.on), 8),
+        (word_of(&transition.off), 8),
+        (u64::from(transition.wait), 4),
+    ];
+    written_record(3, &fields)
+}
+
+// "4 block | 7 | step, action, qualifier (a byte each); duration in ms (32 bits)"
+fn written_block(block: &Block) -> Vec<u8> {
+    let fields = [
+        (block.step as u64, 1),
+        (block.action as u64, 1),
+        (u64::from(block.qualifier), 1),
+        (u64::from(block.duration), 4),
+    ];
+    written_record(4, &fields)
+}
+
+// "5 case | 3 | step, signal 0..63, expected 0 or 1"
+fn written_case(case: &Case) -> Vec<u8> {
+    let fields = [(case.step as u64, 1), (case.signal as u64, 1), (u64::from(case.expected), 1)];
+    written_record(5, &fields)
+}
+
+// ---------------------------------------------------------------------------------------------
 // The printed run
 // ---------------------------------------------------------------------------------------------
 
@@ -1080,7 +1200,7 @@ fn tally_line(tally: &Tally) -> String {
 }
 
 // ---------------------------------------------------------------------------------------------
-// The command line (not spoken of in document 01)
+// The command line (not spoken of in document 01 or in request (i))
 // ---------------------------------------------------------------------------------------------
 
 // For the command line: one case of `print`, and what is printed for it.
@@ -1111,6 +1231,22 @@ fn read_case(input: &mut Fields) -> Option<Vec<u8>> {
         counts.cases,
     ];
     Some(line_of(line.iter()))
+}
+
+// For the command line: one case of `back`, framed as in `read`: the number alone if the file is
+// refused, else the number and the length of writing it back into as many bytes, each 165 before,
+// and whether they then are the file. Request (i): "writing what was read gives the same bytes"
+fn back_case(input: &mut Fields) -> Option<Vec<u8>> {
+    let length = input.take(4)?;
+    let file = input.slice(length as usize)?;
+    let reading = read_chart(file);
+    if reading.code != 0 {
+        return Some(line_of([reading.code].iter()));
+    }
+    let mut lent = vec![165; file.len()];
+    let answer = write_chart(&hold(&reading.chart), &mut lent);
+    let compared = if lent == file { "same" } else { "differs" };
+    Some(format!("{} {} {}\n", answer.code, answer.length, compared).into_bytes())
 }
 
 // For the command line: numbers in decimal with single spaces.
@@ -1226,6 +1362,7 @@ fn held_case(input: &mut Fields) -> Option<Vec<u8>> {
             let answer = weighing(&held, &weights);
             line_of([answer.code, answer.transition, answer.total].iter())
         }
+        4 => writing_line(&held, clock),
         _ => b"unknown call\n".to_vec(),
     };
     Some(line)
@@ -1249,6 +1386,16 @@ fn answer_line(answer: &Answer, outputs: &[i32]) -> Vec<u8> {
     values.extend(run.step_counters.iter().map(|time| i128::from(*time)));
     values.extend(run.action_timers.iter().map(|time| i128::from(*time)));
     values.extend(outputs.iter().map(|value| i128::from(*value)));
+    line_of(values.iter())
+}
+
+// For the command line: the line of a writing: the number, the length and then all the lent bytes.
+// There are as many as the two lowest bytes of the call's clock say, byte k holding k % 251 before.
+fn writing_line(held: &Held, clock: u32) -> Vec<u8> {
+    let mut lent: Vec<u8> = (0..clock % 65_536).map(|k| (k % 251) as u8).collect();
+    let answer = write_chart(held, &mut lent);
+    let mut values = vec![answer.code, answer.length];
+    values.extend(lent.iter().map(|byte| u64::from(*byte)));
     line_of(values.iter())
 }
 
@@ -1278,9 +1425,10 @@ fn main() {
         Some("print") => all_cases(print_case),
         Some("read") => all_cases(read_case),
         Some("held") => all_cases(held_case),
+        Some("back") => all_cases(back_case),
         Some("selftest") => selftest(),
         _ => {
-            say(b"use: second print | read | held | selftest\n");
+            say(b"use: second print | read | held | back | selftest\n");
             std::process::exit(2);
         }
     }
@@ -1455,6 +1603,11 @@ fn selftest() {
     check_outputs(&mut bench);
     check_tally(&mut bench);
     check_weighing(&mut bench);
+    check_writing(&mut bench);
+    check_writing_17(&mut bench);
+    check_writing_order(&mut bench);
+    check_writing_beyond(&mut bench);
+    check_writing_lines(&mut bench);
     check_printed(&mut bench);
     check_printed_refusals(&mut bench);
     check_trace_length(&mut bench);
@@ -1650,8 +1803,8 @@ fn check_held_counts(b: &mut Bench) {
     b.check("held transition without steps", held_code(&held) == 5);
 }
 
-// "Entries beyond a count play no part."
-fn check_held_entries(b: &mut Bench) {
+// "Entries beyond a count play no part." (chart A, held, with junk behind every count)
+fn held_a_with_junk() -> Held {
     let mut held = held_a();
     held.tables.steps.push(Step { initial: 77 });
     held.tables.actions.push(Action { output: 32, value: 1 });
@@ -1665,6 +1818,12 @@ fn check_held_entries(b: &mut Bench) {
     });
     held.tables.blocks.push(Block { step: 255, action: 255, qualifier: 255, duration: 1 });
     held.tables.cases.push(Case { step: 255, signal: 255, expected: 255 });
+    held
+}
+
+// "Entries beyond a count play no part."
+fn check_held_entries(b: &mut Bench) {
+    let held = held_a_with_junk();
     b.check("entries beyond the counts", held_code(&held) == 0);
     b.check("a cycle beside them", seen(&held, 1000, &[(1010, 1)]) == (0, 1, 2, 3));
     let mut more = held.clone();
@@ -2027,7 +2186,7 @@ fn check_outputs(b: &mut Bench) {
 }
 
 // ---------------------------------------------------------------------------------------------
-// The selftest: tally, weighing, the printed run
+// The selftest: tally, weighing
 // ---------------------------------------------------------------------------------------------
 
 // "failed if the bad mark is set; passed if only the good mark is; otherwise not run"; "Counting a
@@ -2069,6 +2228,170 @@ fn check_weighing(b: &mut Bench) {
     broken.counts.blocks = 257;
     b.check("the chart first", weighing(&broken, &[1]) == answer(4, 0, 0));
 }
+
+// ---------------------------------------------------------------------------------------------
+// The selftest: the writer
+// ---------------------------------------------------------------------------------------------
+
+// "Chart A (152 bytes)" (byte by byte, worked out by hand from the table of kinds)
+fn chart_a_bytes() -> Vec<u8> {
+    let rows: [&[u8]; 23] = [
+        &[1, 0, 1, 0, 1],
+        &[1, 0, 1, 0, 0],
+        &[5, 0, 2, 0, 0, 120, 0, 0, 0],
+        &[5, 0, 2, 0, 0, 7, 0, 0, 0],
+        &[36, 0, 3, 0],
+        &[1, 0, 0, 0, 0, 0, 0, 0],
+        &[2, 0, 0, 0, 0, 0, 0, 0],
+        &[1, 0, 0, 0, 0, 0, 0, 0],
+        &[0, 0, 0, 0, 0, 0, 0, 0],
+        &[0, 0, 0, 0],
+        &[36, 0, 3, 0],
+        &[2, 0, 0, 0, 0, 0, 0, 0],
+        &[1, 0, 0, 0, 0, 0, 0, 0],
+        &[2, 0, 0, 0, 0, 0, 0, 0],
+        &[0, 0, 0, 0, 0, 0, 0, 0],
+        &[244, 1, 0, 0],
+        &[7, 0, 4, 0],
+        &[1, 0, 0, 0, 0, 0, 0],
+        &[7, 0, 4, 0],
+        &[1, 1, 2, 0, 0, 0, 0],
+        &[7, 0, 4, 0, 0, 1, 1, 0, 0, 0, 0],
+        &[3, 0, 5, 0, 1, 1, 1],
+        &[0, 0, 0, 0],
+    ];
+    rows.concat()
+}
+
+// A chart written into so many lent bytes, each 9 before: number, length and the bytes after.
+fn wrote(held: &Held, lent: usize) -> (Code, u64, Vec<u8>) {
+    let mut bytes = vec![9; lent];
+    let answer = write_chart(held, &mut bytes);
+    (answer.code, answer.length, bytes)
+}
+
+// Request (i): "Reading what was written gives the same chart as far as its counts reach, and
+// writing what was read gives the same bytes."
+fn check_writing(b: &mut Bench) {
+    b.check("chart A by hand has 152 bytes", chart_a_bytes().len() == 152);
+    b.check("chart A written", wrote(&held_a(), 152) == (0, 152, chart_a_bytes()));
+    let reading = read_chart(&wrote(&held_a(), 152).2);
+    b.check("chart A read again", reading.code == 0 && reading.chart == held_a().tables);
+    let small = held_of(&[step(1)]);
+    let bytes = vec![1, 0, 1, 0, 1, 0, 0, 0, 0];
+    b.check("one step written", wrote(&small, 9) == (0, 9, bytes));
+    let records = [step(1), action(31, -2), block(0, 0, 8, 86_400_000), case(0, 32, 0)];
+    let rows: [&[u8]; 5] = [
+        &[1, 0, 1, 0, 1],
+        &[5, 0, 2, 0, 31, 254, 255, 255, 255],
+        &[7, 0, 4, 0, 0, 0, 8, 0, 92, 38, 5],
+        &[3, 0, 5, 0, 0, 32, 0],
+        &[0, 0, 0, 0],
+    ];
+    b.check("sign and long duration", wrote(&held_of(&records), 36) == (0, 36, rows.concat()));
+    let steps = [1, 0, 1, 0, 1].repeat(64);
+    let moves = transition(1 << 63 | 1, 1 << 40 | 2, 1 << 31, 1 << 8, 66_051);
+    let rows: [&[u8]; 8] = [
+        &steps,
+        &[36, 0, 3, 0],
+        &[1, 0, 0, 0, 0, 0, 0, 128],
+        &[2, 0, 0, 0, 0, 1, 0, 0],
+        &[0, 0, 0, 128, 0, 0, 0, 0],
+        &[0, 1, 0, 0, 0, 0, 0, 0],
+        &[3, 2, 1, 0],
+        &[0, 0, 0, 0],
+    ];
+    let held = held_of(&[step(1).repeat(64), moves]);
+    b.check("sets and wait", wrote(&held, 364) == (0, 364, rows.concat()));
+    let most = [
+        step(1).repeat(64),
+        action(31, -1).repeat(32),
+        transition(1, 2, 1 << 63, 0, 86_400_000).repeat(64),
+        block(63, 31, 10, 0).repeat(256),
+        case(63, 63, 1).repeat(64),
+    ];
+    let full = [most.concat(), end()].concat();
+    b.check("fullest chart written", wrote(&held_of(&most), 6436) == (0, 6436, full));
+    b.check("one byte less", wrote(&held_of(&most), 6435) == (17, 0, vec![9; 6435]));
+}
+
+// Request (i): "17 when the lent bytes are fewer than the chart's length, nothing written"; "The
+// answer is the length written; bytes behind it stay."
+fn check_writing_17(b: &mut Bench) {
+    b.check("151 bytes lent", wrote(&held_a(), 151) == (17, 0, vec![9; 151]));
+    b.check("no bytes lent", wrote(&held_a(), 0) == (17, 0, vec![]));
+    b.check("8 bytes for one step", wrote(&held_of(&[step(1)]), 8) == (17, 0, vec![9; 8]));
+    let longer = [chart_a_bytes(), vec![9]].concat();
+    b.check("153 bytes lent", wrote(&held_a(), 153) == (0, 152, longer));
+    let longer = [chart_a_bytes(), vec![9; 7000]].concat();
+    b.check("7,152 bytes lent", wrote(&held_a(), 7152) == (0, 152, longer));
+}
+
+// Request (i): "the chart's own first, then 17"; document 01: "4, then records by kind with 5, 6,
+// 7, then 9, 8"
+fn check_writing_order(b: &mut Bench) {
+    let empty = hold(&Chart::default());
+    b.check("no steps, 9 before 17", wrote(&empty, 0) == (9, 0, vec![]));
+    b.check("no steps, room enough", wrote(&empty, 4) == (9, 0, vec![9; 4]));
+    for lent in [0, 151, 152, 200].iter() {
+        let untouched = vec![9; *lent];
+        let mut held = held_a();
+        let timed = Block { step: 0, action: 0, qualifier: 3, duration: 9 };
+        held.tables.blocks = vec![timed.clone(), timed.clone(), timed];
+        b.check("writing, 8", wrote(&held, *lent) == (8, 0, untouched.clone()));
+        held.tables.steps = vec![Step { initial: 0 }, Step { initial: 0 }];
+        b.check("writing, 9 before 8", wrote(&held, *lent) == (9, 0, untouched.clone()));
+        held.tables.cases = vec![Case { step: 0, signal: 0, expected: 2 }];
+        b.check("writing, 5 before 9", wrote(&held, *lent) == (5, 0, untouched.clone()));
+        held.counts.actions = 33;
+        b.check("writing, 4 first", wrote(&held, *lent) == (4, 0, untouched));
+    }
+}
+
+// "Entries beyond a count play no part."; request (i): "as far as its counts reach"
+fn check_writing_beyond(b: &mut Bench) {
+    let held = held_a_with_junk();
+    b.check("junk is not written", wrote(&held, 152) == (0, 152, chart_a_bytes()));
+    b.check("junk takes no room", wrote(&held, 151) == (17, 0, vec![9; 151]));
+    let mut held = held_a();
+    held.counts.actions = 1;
+    held.counts.transitions = 1;
+    held.counts.blocks = 1;
+    held.counts.cases = 0;
+    let rows = [
+        step(1),
+        step(0),
+        action(0, 120),
+        transition(1, 2, 1, 0, 0),
+        block(1, 0, 0, 0),
+        end(),
+        vec![9; 78],
+    ];
+    b.check("smaller counts", wrote(&held, 152) == (0, 74, rows.concat()));
+}
+
+// For the command line: the lines of a writing and of `back`.
+fn check_writing_lines(b: &mut Bench) {
+    let small = held_of(&[step(1)]);
+    b.check("line of a writing", writing_line(&small, 11) == b"0 9 1 0 1 0 1 0 0 0 0 9 10\n");
+    b.check("only two bytes of the clock", writing_line(&small, 131_076) == b"17 0 0 1 2 3\n");
+    b.check("no lent bytes", writing_line(&small, 65_536) == b"17 0\n");
+    let line = String::from_utf8(writing_line(&small, 300)).unwrap_or_default();
+    b.check("bytes behind the length", line.starts_with("0 9 1 0 1 0 1 0 0 0 0 9 10 11 "));
+    b.check("byte 251 holds 0", line.contains(" 249 250 0 1 2 ") && line.ends_with(" 47 48\n"));
+    let back = |file: Vec<u8>| {
+        let mut input = (file.len() as u32).to_le_bytes().to_vec();
+        input.extend(file);
+        back_case(&mut Fields::new(&input)).unwrap_or_default()
+    };
+    b.check("back, chart A", back(chart_a_bytes()) == b"0 152 same\n");
+    b.check("back, empty file", back(vec![]) == b"1\n");
+    b.check("back, surplus byte", back([chart_a_bytes(), vec![0]].concat()) == b"10\n");
+}
+
+// ---------------------------------------------------------------------------------------------
+// The selftest: the printed run
+// ---------------------------------------------------------------------------------------------
 
 // The printed run of chart A; "An empty trace prints the tally alone, all cases not run."
 fn check_printed(b: &mut Bench) {

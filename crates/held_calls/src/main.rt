@@ -332,11 +332,42 @@ fn weigh(image: &[u8], tail: &[u8], line: &mut [u8]) -> usize {
     put_number(line, transition, w.total as u64)
 }
 
+// What lent bytes hold before a writing.
+fn fill(bytes: &mut [u8]) {
+    let mut k = 0;
+    while k < bytes.len() {
+        bytes[k] = (k % 251) as u8;
+        k += 1;
+    }
+}
+
+fn put_lent(line: &mut [u8], used: usize, bytes: &[u8]) -> usize {
+    let mut end = used;
+    let mut k = 0;
+    while k < bytes.len() {
+        end = put_number(line, end, numbers::index_of(bytes[k]) as u64);
+        k += 1;
+    }
+    end
+}
+
+fn write(image: &[u8], line: &mut [u8]) -> usize {
+    let mut room = io::large_buffer();
+    let n = numbers::u16_from(image, 4989) as usize;
+    let bytes: &mut [u8] = &mut room[..n];
+    fill(bytes);
+    let w = writer::write_chart(chart_of(image), bytes);
+    let code = put_number(line, 0, w.code as u64);
+    let length = put_number(line, code, w.length as u64);
+    put_lent(line, length, bytes)
+}
+
 fn answer(image: &[u8], tail: &[u8], line: &mut [u8]) -> usize {
     match byte_from(image, 4988) {
         0 => start(image, line),
         1 => cycle(image, line),
         2 => tally(image, line),
+        4 => write(image, line),
         _ => weigh(image, tail, line),
     }
 }
