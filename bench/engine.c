@@ -242,6 +242,64 @@ unsigned chart_code(const struct chart *c)
 	return twice ? TIMED_TWICE : ACCEPTED;
 }
 
+/* A number's bytes, the least first; the place behind them. */
+static inline uint8_t *put(uint8_t *b, uint64_t x, size_t size)
+{
+	memcpy(b, &x, size);
+	return b + size;
+}
+
+static inline uint8_t *put_head(uint8_t *b, unsigned kind)
+{
+	b = put(b, LENGTHS[kind], 2);
+	return put(b, kind, 2);
+}
+
+unsigned write_chart(const struct chart *c, uint8_t *bytes, size_t lent, size_t *length)
+{
+	*length = 0;
+	unsigned code = chart_code(c);
+	if (code)
+		return code;
+	size_t whole = 5 * c->steps + 9 * c->actions + 40 * c->transitions + 11 * c->blocks + 7 * c->cases + 4;
+	if (lent < whole)
+		return FEW_BYTES;
+	uint8_t *b = bytes;
+	for (size_t i = 0; i < c->steps; i++) {
+		b = put_head(b, 1);
+		b = put(b, c->initial[i], 1);
+	}
+	for (size_t i = 0; i < c->actions; i++) {
+		b = put_head(b, 2);
+		b = put(b, c->output[i], 1);
+		b = put(b, (uint32_t)c->value[i], 4);
+	}
+	for (size_t i = 0; i < c->transitions; i++) {
+		b = put_head(b, 3);
+		b = put(b, c->sources[i], 8);
+		b = put(b, c->targets[i], 8);
+		b = put(b, c->on[i], 8);
+		b = put(b, c->off[i], 8);
+		b = put(b, c->wait[i], 4);
+	}
+	for (size_t i = 0; i < c->blocks; i++) {
+		b = put_head(b, 4);
+		b = put(b, c->blockstep[i], 1);
+		b = put(b, c->blockaction[i], 1);
+		b = put(b, c->qualifier[i], 1);
+		b = put(b, c->duration[i], 4);
+	}
+	for (size_t i = 0; i < c->cases; i++) {
+		b = put_head(b, 5);
+		b = put(b, c->casestep[i], 1);
+		b = put(b, c->signal[i], 1);
+		b = put(b, c->expected[i], 1);
+	}
+	put_head(b, 0);
+	*length = whole;
+	return ACCEPTED;
+}
+
 /* Counts are 0 outside the set and at most a day. */
 static unsigned counts_bad(const uint32_t *counts, size_t n, uint64_t set)
 {
@@ -480,4 +538,16 @@ uint64_t c_tests(const uint8_t *bytes, size_t size, uint32_t n)
 		sum += chart_code(&c);
 	}
 	return sum;
+}
+
+uint64_t c_writes(const uint8_t *bytes, size_t size, uint32_t n, uint8_t *file, size_t lent)
+{
+	struct chart c;
+	size_t place, length = 0;
+	read_chart(bytes, size, &c, &place);
+	for (uint32_t i = 0; i < n; i++) {
+		c.wait[0] = i;
+		write_chart(&c, file, lent, &length);
+	}
+	return length;
 }

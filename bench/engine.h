@@ -11,7 +11,7 @@ enum { IMAGE = 564 };
 
 enum code {
 	ACCEPTED, CUT, BAD_KIND, BAD_LENGTH, TOO_MANY, BAD_FIELD, BAD_STEPS, BAD_SIGNALS, TIMED_TWICE, NO_INITIAL, SURPLUS,
-	TOO_LATE, OTHER_RUN, FEW_OUTPUTS = 15
+	TOO_LATE, OTHER_RUN, FEW_OUTPUTS = 15, FEW_BYTES = 17
 };
 
 enum qualifier { N, R, S, L, D, P, SD, DS, SL, P1, P0 };
@@ -35,9 +35,10 @@ struct run {
 	uint64_t good, bad;
 };
 
-/* Each answers the number of document 01, 0 for accepted. */
+/* Each answers the number of documents 01 and 02, 0 for accepted. */
 unsigned read_chart(const uint8_t *bytes, size_t size, struct chart *chart, size_t *place);
 unsigned chart_code(const struct chart *chart);
+unsigned write_chart(const struct chart *chart, uint8_t *bytes, size_t lent, size_t *length);
 unsigned start(const struct chart *chart, uint32_t clock, int32_t *outputs, size_t lent, struct run *run);
 unsigned cycle(const struct chart *chart, struct run *run, uint32_t clock, uint32_t inputs, int32_t *outputs, size_t lent, uint64_t *taken);
 
@@ -48,10 +49,12 @@ uint64_t tolwaziho_cycles(const uint8_t *chart, size_t size, const uint32_t *clo
 	const uint32_t *waits, size_t nwaits, uint32_t n, uint8_t *image, size_t room);
 uint64_t tolwaziho_reads(const uint8_t *chart, size_t size, uint32_t n);
 uint64_t tolwaziho_tests(const uint8_t *chart, size_t size, uint32_t n);
+uint64_t tolwaziho_writes(const uint8_t *chart, size_t size, uint32_t n, uint8_t *file, size_t lent);
 uint64_t c_start(const uint8_t *chart, size_t size, uint32_t clock, uint8_t *image, size_t room);
 uint64_t c_cycles(const uint8_t *chart, size_t size, const uint32_t *clocks, size_t nclocks, const uint32_t *inputs, size_t ninputs,
 	const uint32_t *waits, size_t nwaits, uint32_t n, uint8_t *image, size_t room);
 uint64_t c_reads(const uint8_t *chart, size_t size, uint32_t n);
 uint64_t c_tests(const uint8_t *chart, size_t size, uint32_t n);
+uint64_t c_writes(const uint8_t *chart, size_t size, uint32_t n, uint8_t *file, size_t lent);
 
 #endif

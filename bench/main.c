@@ -1,11 +1,12 @@
 /* Runs the proved engine and the plain C one on the same charts and inputs.
 
-     bench compare SEED COUNT               COUNT random charts, good and damaged: every answer and every image equal, or exit 1
+     bench compare SEED COUNT               COUNT random charts, good and damaged: every answer, image and file equal, or exit 1
      bench soak    SEED CHARTS N            N thousand cycles on each of CHARTS charts, images compared after each thousand: equal, or exit 1
      bench cycles  CHART ENGINE SEED N      N cycles of small, typical or full on the engine proved, c or both (both: exit 1 if they differ)
      bench reads   CHART ENGINE SEED N      N readings of the chart's bytes
      bench tests   CHART ENGINE SEED N      N tests of the held chart
-     bench time    CHART SEED N             seconds of both for N cycles, N readings and N tests, and their ratios
+     bench writes  CHART ENGINE SEED N      N writings of the held chart
+     bench time    CHART SEED N             seconds of both for N cycles, N readings, N tests and N writings, and their ratios
 
    Charts and inputs are made at run time from the seed, so that the compiler can fold nothing away. */
 #include "engine.h"
@@ -236,6 +237,7 @@ static void chart_of(const char *name, struct file *f)
 struct answer {
 	uint64_t number;
 	uint8_t image[IMAGE + 4];
+	uint8_t file[8192];
 };
 
 static uint64_t start_of(int proved, const struct file *f, uint32_t clock, struct answer *a)
@@ -253,6 +255,9 @@ static uint64_t cycles_of(int proved, const struct file *f, uint32_t n, struct a
 static size_t altered_at;
 static uint8_t altered_by;
 
+/* How many bytes are lent to be written. */
+static size_t lent = sizeof ((struct answer *)0)->file;
+
 static uint64_t number_of(const char *what, int proved, const struct file *f, uint32_t n, struct answer *a)
 {
 	if (!strcmp(what, "cycles")) {
@@ -264,6 +269,10 @@ static uint64_t number_of(const char *what, int proved, const struct file *f, ui
 		return (proved ? tolwaziho_reads : c_reads)(f->bytes, f->size, n);
 	if (!strcmp(what, "tests"))
 		return (proved ? tolwaziho_tests : c_tests)(f->bytes, f->size, n);
+	if (!strcmp(what, "writes")) {
+		memset(a->file, 165, sizeof a->file);
+		return (proved ? tolwaziho_writes : c_writes)(f->bytes, f->size, n, a->file, lent);
+	}
 	fprintf(stderr, "no measure %s\n", what);
 	exit(2);
 }
@@ -273,12 +282,15 @@ static void show(const char *engine, const struct answer *a)
 	printf("%s %llu ", engine, (unsigned long long)a->number);
 	for (size_t i = 0; i < sizeof a->image; i++)
 		printf("%02x", a->image[i]);
+	printf(" ");
+	for (size_t i = 0; i < sizeof a->file; i++)
+		printf("%02x", a->file[i]);
 	printf("\n");
 }
 
 static int equal(const char *what, const struct answer *proved, const struct answer *c)
 {
-	if (proved->number == c->number && !memcmp(proved->image, c->image, sizeof c->image))
+	if (proved->number == c->number && !memcmp(proved->image, c->image, sizeof c->image) && !memcmp(proved->file, c->file, sizeof c->file))
 		return 1;
 	printf("%s differ\n", what);
 	show("proved", proved);
@@ -305,7 +317,9 @@ static int compare(uint32_t count)
 			some_inputs((uint32_t)any_word(), 1);
 		altered_at = any(IMAGE);
 		altered_by = any(8) ? 0 : (uint8_t)(1u << any(8));
-		if (!same("cycles", &f, any(60)) || !same("reads", &f, 1 + any(2)) || !same("tests", &f, any(3))) {
+		/* an accepted chart's file is as long as it was */
+		lent = any(2) ? any(8193) : f.size - (f.size != 0 && any(2));
+		if (!same("cycles", &f, any(60)) || !same("reads", &f, 1 + any(2)) || !same("tests", &f, any(3)) || !same("writes", &f, 1 + any(2))) {
 			printf("chart %u\n", k);
 			return 1;
 		}
@@ -390,12 +404,12 @@ int main(int argc, char **argv)
 		return soak((uint32_t)strtoul(argv[3], NULL, 10), (uint32_t)strtoul(argv[4], NULL, 10));
 	}
 	if (argc == 5 && !strcmp(argv[1], "time")) {
-		static const char *const what[] = { "cycles", "reads", "tests" };
+		static const char *const what[] = { "cycles", "reads", "tests", "writes" };
 		uint32_t n = (uint32_t)strtoul(argv[4], NULL, 10);
 		state = strtoull(argv[3], NULL, 10);
 		chart_of(argv[2], &f);
 		some_inputs((uint32_t)any_word(), 0);
-		for (int i = 0; i < 3; i++) {
+		for (int i = 0; i < 4; i++) {
 			double proved = time_of(what[i], 1, &f, n), c = time_of(what[i], 0, &f, n);
 			printf("%s %.1f %.1f %.2f\n", what[i], 1e9 * proved / n, 1e9 * c / n, proved / c);
 		}

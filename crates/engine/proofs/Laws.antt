@@ -13,11 +13,13 @@ use borrow.Author.Tests.{eqb-false, ltb-false, eq-eqb, ne-eqb}
 use Rattle.reader.specs.Reading.{readChart}
 use Rattle.reader.specs.declared.chart.Chart.{Chart}
 use Rattle.reader.specs.declared.reading.Reading.{Reading}
+use Rattle.writer.specs.Writing.{writeChart}
+use Rattle.writer.specs.declared.writing.Writing.{Writing}
 use Rattle.cycle.specs.Cycling.{startOf, outputsAfter, cycleOn}
 use Rattle.cycle.specs.declared.run.Run.{Run}
 use Rattle.cycle.specs.declared.cycling.Cycled.{Cycled}
 use Rattle.engine.specs.Image.{withRun, withOutputs, runFrom, outputsFrom}
-use Rattle.engine.specs.Runs.{accepts, altered, turn, turned, imaged, ran, began, unfit, ifRead}
+use Rattle.engine.specs.Runs.{accepts, altered, turn, turned, written, imaged, ran, began, unfit, ifRead}
 use Rattle.engine.specs.declared.runs.Ran.{Ran}
 
 -- the last alteration counts
@@ -38,6 +40,15 @@ turn-of c held clocks inputs waits i ran out next p q w a o same ep eq ew eo ea 
     let after : Cycled × List ℤ → Ran × List ℤ = λ s. (record { accepted = ran .accepted + accepts (s .0 .code); run = s .0 .run }, s .1) in
     let counted : (record { accepted = ran .accepted + a; run = o .run }, next) ≡ after (o, next) = rw ea in
     counted ∙ ap after (eo ∙ ap cycle (same (getD waits w 0))) ∙ rw (ep, eq, ew)
+
+-- and a writing on what they left
+pub written-of : (c held : Chart) (i length : ℕ) (file next : List ℕ) (w : Writing)
+    → ((x : ℕ) → altered held x ≡ altered c x)
+    → _≡_ {A = Writing × List ℕ} (w, next) (writeChart (altered held i) file)
+    → (w .length, next) ≡ written c i (length, file)
+written-of c held i length file next w same ew =
+    let after : Writing × List ℕ → ℕ × List ℕ = λ s. (s .0 .length, s .1) in
+    ap after (ew ∙ ap (λ (h : Chart). writeChart h file) (same i))
 
 -- the run and then the outputs, written over what was lent
 imaged-of : (answer : ℕ) (run : Run) (out : List ℤ) (image middle last : List ℕ)

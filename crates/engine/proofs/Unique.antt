@@ -4,7 +4,7 @@ use mathlib.Core.List.{List}
 use mathlib.Core.Path.{_≡_}
 use Rattle.sets.proofs.Unique.{one-answer}
 use Rattle.reader.specs.declared.chart.Chart.{Chart}
-use Rattle.engine.specs.Runs.{startsOf, cyclesOf, readsOf, testsOf}
+use Rattle.engine.specs.Runs.{startsOf, cyclesOf, readsOf, testsOf, writesOf}
 
 -- the number and the image together
 pub starts-unique : (chart : List ℕ) (clock : ℕ) (image : List ℕ) (r q : ℕ × List ℕ)
@@ -24,3 +24,7 @@ reads-unique chart n r q = one-answer
 
 pub tests-unique : (c : Chart) (n r q : ℕ) → r ≡ testsOf c n → q ≡ testsOf c n → r ≡ q
 tests-unique c n r q = one-answer
+
+-- the length and the file together
+pub writes-unique : (c : Chart) (n : ℕ) (file : List ℕ) (r q : ℕ × List ℕ) → r ≡ writesOf c n file → q ≡ writesOf c n file → r ≡ q
+writes-unique c n file r q = one-answer

@@ -9,6 +9,7 @@ use Rattle.sets.specs.Loops.{summed, turns}
 use Rattle.reader.specs.Held.{chartCode}
 use Rattle.reader.specs.Reading.{readChart}
 use Rattle.reader.specs.declared.chart.Chart.{Chart}
+use Rattle.writer.specs.Writing.{writeChart}
 use Rattle.cycle.specs.Cycling.{startOf, outputsAfter, cycleOn}
 use Rattle.cycle.specs.declared.run.Run.{Run}
 use Rattle.engine.specs.Image.{withRun, withOutputs, runFrom, outputsFrom}
@@ -91,3 +92,11 @@ readsOf chart n = summed (λ i. readChart chart .code) n
 
 abbrev pub testsOf : Chart → ℕ → ℕ
 testsOf c n = summed (λ i. chartCode (altered c i)) n
+
+-- turn i: the chart written once, over what the turns before it left
+abbrev pub written : Chart → ℕ → ℕ × List ℕ → ℕ × List ℕ
+written c i s = let w = writeChart (altered c i) (s .1) in (w .0 .length, w .1)
+
+-- the length written last, and the bytes that were lent for the file
+unfoldable pub writesOf : Chart → ℕ → List ℕ → ℕ × List ℕ
+writesOf c n file = turns (written c) (0, file) n

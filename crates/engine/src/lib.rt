@@ -1,7 +1,7 @@
 // The engine for programs in other languages: a chart's bytes in, the run after some cycles out. The benchmark links it (bench/).
 ghost use mathlib.Core.Path.{_≡_};
 ghost use Rattle.reader.specs.Reading.{readChart};
-ghost use Rattle.engine.specs.Runs.{unfit, startsOf, cyclesOf, readsOf, testsOf};
+ghost use Rattle.engine.specs.Runs.{unfit, startsOf, cyclesOf, readsOf, testsOf, writesOf};
 
 pub mod image;
 pub mod runs;
@@ -80,4 +80,14 @@ pub extern "C" fn tolwaziho_tests(chart: &[u8], n: u32) -> u64
     let reading = reader::read_chart(chart);
     let held = reading.chart;
     runs::test_held(held, n)
+}
+
+// Reads the chart once and writes it n times into the lent bytes, with wait 0 altered before each: the length written last.
+#[no_mangle]
+pub extern "C" fn tolwaziho_writes(chart: &[u8], n: u32, file: &mut [u8]) -> u64
+    ensures { λ r. ⌜ (r, now (file .exit)) ≡ writesOf (readChart (now (chart .entry)) .chart) n (now (file .entry)) ⌝ }
+{
+    let reading = reader::read_chart(chart);
+    let held = reading.chart;
+    runs::write_held(held, n, file)
 }

@@ -2,7 +2,7 @@
 ghost use mathlib.Core.Path.{_≡_};
 ghost use Prim.Native.Nat.{_%_, _≤_, _<_};
 ghost use lib.ListN.{length};
-ghost use Rattle.engine.specs.Runs.{accepts, turned, began, ran, testsOf};
+ghost use Rattle.engine.specs.Runs.{accepts, turned, began, ran, testsOf, writesOf};
 use crate::image;
 use cycle::Run;
 use reader::Chart;
@@ -148,4 +148,19 @@ pub(crate) fn test_held(chart: Chart, n: u32) -> u64
         i += 1;
     }
     sum
+}
+
+pub(crate) fn write_held(chart: Chart, n: u32, file: &mut [u8]) -> u64
+    ensures { λ r. ⌜ (r, now (file .exit)) ≡ writesOf chart n (now (file .entry)) ⌝ }
+{
+    let mut held = chart;
+    let mut length = 0u64;
+    let mut i = 0u32;
+    while i < n {
+        held.wait[0] = i;
+        let w = writer::write_chart(held, file);
+        length = w.length as u64;
+        i += 1;
+    }
+    length
 }
