@@ -19,6 +19,7 @@ use Rattle.reader.specs.Held.{chartCode}
 use Rattle.reader.specs.Reading.{readChart}
 use Rattle.reader.specs.declared.chart.Chart.{Chart}
 use Rattle.reader.specs.declared.reading.Reading.{Reading}
+use Rattle.reader.proofs.framing.Laws.{is-record}
 use Rattle.reader.proofs.reading.Accepted.{read-accepted, read-refused}
 use Rattle.cycle.specs.Run.{noRun}
 use Rattle.cycle.specs.Time.{elapsed}
@@ -119,7 +120,7 @@ record-answers s at before = record {
   bad-kind = λ h k. rw (le-leb 4 (length s - at) (omega arith), k);
   bad-length = λ h k z. rw (le-leb 4 (length s - at) (omega arith), k, ne-eqb (lengthAt s at) (bodyLength (kindAt s at)) z);
   cut-body = λ h k e l. rw (le-leb 4 (length s - at) (omega arith), k, eq-eqb (lengthAt s at) (bodyLength (kindAt s at)) e, lt-leb (lengthAt s at) (length s - (at + 4)) (omega arith));
-  accepted = λ k e l. rw (le-leb 4 (length s - at) (omega arith), k, eq-eqb (lengthAt s at) (bodyLength (kindAt s at)) e, le-leb (lengthAt s at) (length s - (at + 4)) (omega arith));
+  accepted = is-record s at before;
   same-place = λ z. rw (ne-eqb (recordNumber s at before) 0 z);
 }
 

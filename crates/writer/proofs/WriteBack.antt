@@ -79,11 +79,11 @@ unfolding joined
 records-none f n e = rw e
 
 -- the kinds above the last one read have no record yet
-pub record Ordered (before : ℕ) (c : Chart) : Type 0 where
-  pub actions : before < 2 → c .actions ≡ 0
-  pub transitions : before < 3 → c .transitions ≡ 0
-  pub blocks : before < 4 → c .blocks ≡ 0
-  pub cases : before < 5 → c .cases ≡ 0
+record Ordered (before : ℕ) (c : Chart) : Type 0 where
+  actions : before < 2 → c .actions ≡ 0
+  transitions : before < 3 → c .transitions ≡ 0
+  blocks : before < 4 → c .blocks ≡ 0
+  cases : before < 5 → c .cases ≡ 0
 
 module _ (at before : ℕ) (c : Chart) (h : Kept at before c) (o : Ordered before c) where
   no-actions : before < 2 → actionRecords c ≡ []
