@@ -19,8 +19,8 @@ use Rattle.reader.specs.Held.{stepsCode, actionsCode, transitionsCode, blocksCo
 use Rattle.reader.specs.Reading.{readFrom, readChart}
 use Rattle.reader.specs.declared.chart.Chart.{Chart}
 use Rattle.reader.proofs.reading.Examples.{chartA}
+use Rattle.choice.specs.Choice.{chosen}
 use Rattle.cycle.specs.Time.{elapsed}
-use Rattle.cycle.specs.Choosing.{chosen}
 use Rattle.cycle.specs.Moving.{marksOf, initialSet}
 use Rattle.cycle.specs.Acting.{request, ripens, asked, acted}
 use Rattle.cycle.specs.Outputs.{first, outputsOf}

@@ -13,8 +13,9 @@ use Rattle.sets.proofs.Loops.{and-true, or-false}
 use Rattle.sets.proofs.Members.{has-collect, collect-lt, has-high, has-zero}
 use Rattle.sets.proofs.Below.{has-union, has-minus, within-has, apart-has, either, never}
 use Rattle.sets.proofs.Counts.{counted-same}
-use Rattle.cycle.specs.Choosing.{ripe, ready, takes, choosingAt, noneTaken, chosen, movedTo}
-use Rattle.cycle.specs.declared.choosing.Choice.{Choice}
+use Rattle.choice.specs.Choice.{ripe, ready, takes, choosingAt, noneTaken, chosen}
+use Rattle.choice.specs.declared.Choice.{Choice}
+use Rattle.cycle.specs.Choosing.{movedTo}
 use Rattle.claims.specs.Runs.{one}
 
 -- how many of the first n transitions in the set s have step k among those of the table l

@@ -22,6 +22,9 @@ use Rattle.reader.specs.declared.chart.Chart.{Chart}
 use Rattle.reader.specs.declared.reading.Reading.{Reading}
 use Rattle.reader.proofs.framing.Laws.{record-at-unique}
 use Rattle.reader.proofs.Unique.{no-chart-unique, held-code-unique, chart-code-unique, from-unique, signed-unique, bits-of-unique, index-of-unique, read-chart-unique}
+use Rattle.choice.specs.Choice.{choosing}
+use Rattle.choice.specs.declared.Choice.{Choice}
+use Rattle.choice.proofs.Unique.{choose-one-unique}
 use Rattle.cycle.specs.Run.{noRun, longerCounter, longerTimer}
 use Rattle.cycle.specs.Time.{elapsed}
 use Rattle.cycle.specs.Moving.{initialOf}
@@ -98,6 +101,11 @@ pub record ReaderUnique : Type 0 where
   pub index-of : (x : ℕ) → One (λ (r : ℕ). (r ≡ x) × (r < 256))
   pub read-chart : (bytes : List ℕ) → One (λ (r : Reading). r ≡ readChart bytes)
 
+-- choice/src/lib.rt
+pub record ChoiceUnique : Type 0 where
+  pub choose-one : (choice : Choice) (t sources targets on off wait : ℕ) (counts : List ℕ) (active signals : ℕ)
+      → One (λ (r : Choice). r ≡ choosing choice t sources targets on off wait counts active signals)
+
 -- cycle/src: belongs, cycling, moving, run, time
 pub record CycleUnique : Type 0 where
   pub belongs : (run : Run) (steps actions cases : ℕ) → One (λ (r : Bool). r ≡ belongsTo steps actions cases run)
@@ -135,6 +143,7 @@ pub record Unique : Type 0 where
   pub sets : SetsUnique
   pub fields : FieldsUnique
   pub reader : ReaderUnique
+  pub choice : ChoiceUnique
   pub cycle : CycleUnique
   pub trace : TraceUnique
   pub tally : TallyUnique
@@ -181,6 +190,7 @@ unique = record {
     index-of = index-of-unique;
     read-chart = read-chart-unique;
   };
+  choice = record { choose-one = choose-one-unique };
   cycle = record {
     belongs = λ run steps actions cases. belongs-unique steps actions cases run;
     start = λ chart clock outputs r q f g a b. start-unique chart clock r q outputs f g (a .0) (b .0) (a .1) (b .1);

@@ -10,14 +10,15 @@ use Rattle.sets.specs.Sets.{union}
 use Rattle.fields.specs.Fields.{unless}
 use Rattle.reader.specs.Held.{chartCode}
 use Rattle.reader.specs.declared.chart.Chart.{Chart}
+use Rattle.choice.specs.Choice.{chosen}
+use Rattle.choice.specs.declared.Choice.{Choice}
 use Rattle.cycle.specs.Run.{noRun}
 use Rattle.cycle.specs.Time.{elapsed, grownCounts, grownTimes}
-use Rattle.cycle.specs.Choosing.{chosen, stepsOf}
+use Rattle.cycle.specs.Choosing.{stepsOf}
 use Rattle.cycle.specs.Moving.{settledCounters, settledTimers, signalsOf, marksOf, initialSet}
 use Rattle.cycle.specs.Acting.{asked, acted}
 use Rattle.cycle.specs.Outputs.{outputsOf}
 use Rattle.cycle.specs.Belongs.{belongs}
-use Rattle.cycle.specs.declared.choosing.Choice.{Choice}
 use Rattle.cycle.specs.declared.moving.Marks.{Marks}
 use Rattle.cycle.specs.declared.acting.Steps.{Steps}
 use Rattle.cycle.specs.declared.acting.Acted.{Acted}

@@ -1,88 +1,10 @@
 // Paragraph 2 of "One cycle": which transitions are taken, in number order.
 ghost use mathlib.Core.Path.{_≡_};
 ghost use Prim.Native.Nat.{_≤_};
-ghost use Rattle.cycle.specs.Choosing.{ripeAt, ripe, ready, takes, choosing, chosen, stepsOf};
+ghost use Rattle.choice.specs.Choice.{chosen};
+ghost use Rattle.cycle.specs.Choosing.{stepsOf};
 use crate::acting::Steps;
-
-// The transitions taken so far, their sources and their targets.
-pub struct Choice {
-    pub taken: u64,
-    pub left: u64,
-    pub claimed: u64,
-}
-
-fn ripe_at(wait: u32, sources: u64, k: usize, count: u32) -> bool
-    ensures { λ r. ⌜ r ≡ ripeAt wait sources k count ⌝ }
-{
-    !sets::is_in(sources, k) | (wait <= count)
-}
-
-fn is_ripe(wait: u32, sources: u64, counts: &[u32; 64]) -> bool
-    ensures { λ r. ⌜ r ≡ ripe wait sources (now (counts .entry)) ⌝ }
-{
-    if wait == 0 {
-        return true;
-    }
-    let mut k = 0;
-    while k < 64 {
-        if !ripe_at(wait, sources, k, counts[k]) {
-            return false;
-        }
-        k += 1;
-    }
-    true
-}
-
-fn is_ready(
-    sources: u64,
-    targets: u64,
-    on: u64,
-    off: u64,
-    active: u64,
-    signals: u64,
-    choice: Choice,
-) -> bool
-    ensures { λ r. ⌜ r ≡ ready sources targets on off active signals choice ⌝ }
-{
-    sets::is_within(sources, active)
-        & sets::is_apart(sources, choice.left)
-        & sets::is_within(on, signals)
-        & sets::is_apart(off, signals)
-        & sets::is_apart(targets, active)
-        & sets::is_apart(targets, choice.claimed)
-}
-
-fn taking(choice: Choice, t: usize, sources: u64, targets: u64) -> Choice
-    ensures { λ r. ⌜ r ≡ takes choice t sources targets ⌝ }
-{
-    Choice {
-        taken: sets::with(choice.taken, t),
-        left: sets::joined(choice.left, sources),
-        claimed: sets::joined(choice.claimed, targets),
-    }
-}
-
-fn choose_one(
-    choice: Choice,
-    t: usize,
-    sources: u64,
-    targets: u64,
-    on: u64,
-    off: u64,
-    wait: u32,
-    counts: &[u32; 64],
-    active: u64,
-    signals: u64,
-) -> Choice
-    ensures { λ r. ⌜ r ≡ choosing choice t sources targets on off wait (now (counts .entry)) active signals ⌝ }
-{
-    if is_ready(sources, targets, on, off, active, signals, choice) {
-        if is_ripe(wait, sources, counts) {
-            return taking(choice, t, sources, targets);
-        }
-    }
-    choice
-}
+use choice::Choice;
 
 pub(crate) fn choose<'a>(
     n: usize,
@@ -105,7 +27,7 @@ pub(crate) fn choose<'a>(
     };
     let mut t = 0;
     while t < n {
-        choice = choose_one(
+        choice = choice::choose_one(
             choice,
             t,
             sources[t],

@@ -10,7 +10,7 @@ use Rattle.reader.specs.Bodies.{bodyAt}
 use Rattle.reader.specs.Held.{stepsCode, actionsCode, transitionsCode, blocksCode, casesCode, someInitial, timedFor, timedTwice, heldCode}
 use Rattle.reader.specs.Reading.{readFrom}
 use Rattle.reader.proofs.reading.Examples.{chartA}
-use Rattle.cycle.specs.Choosing.{chosen}
+use Rattle.choice.specs.Choice.{chosen}
 use Rattle.cycle.specs.Moving.{marksOf, initialSet}
 use Rattle.cycle.specs.Acting.{asked, acted}
 use Rattle.report.specs.Lines.{text, hex, decimalFrom, decimal, acceptedLine, refusedLine, chartLine, traceLine, tallyLine}

@@ -16,14 +16,15 @@ use Rattle.fields.specs.Fields.{unless}
 use Rattle.reader.specs.Held.{chartCode}
 use Rattle.reader.specs.declared.chart.Chart.{Chart}
 use Rattle.reader.proofs.held.Sound.{Sound, sound}
+use Rattle.choice.specs.Choice.{ready, ripe, takes, choosingAt, noneTaken, chosen}
+use Rattle.choice.specs.declared.Choice.{Choice}
 use Rattle.cycle.specs.Run.{longest, longer, counter, timer, noRun}
 use Rattle.cycle.specs.Time.{elapsed, grownCount, grownTime, grownCounts, grownTimes}
-use Rattle.cycle.specs.Choosing.{ready, ripe, takes, choosingAt, noneTaken, chosen, movedTo, stepsOf}
+use Rattle.cycle.specs.Choosing.{movedTo, stepsOf}
 use Rattle.cycle.specs.Moving.{keptCount, settledCounters, settledTimers, marksOf, initialSet, signalsOf}
 use Rattle.cycle.specs.Acting.{sets, latches, wants, requestOf, asked, storedAfter, latchedAfter, acted}
 use Rattle.cycle.specs.Belongs.{countFits, countersFit, timersFit, belongs}
 use Rattle.cycle.specs.Cycling.{refused, startCode, cycleCode, actedOn, startSteps, started, startOf, choiceOf, cycled, cycleOf}
-use Rattle.cycle.specs.declared.choosing.Choice.{Choice}
 use Rattle.cycle.specs.declared.acting.Steps.{Steps}
 use Rattle.cycle.specs.declared.acting.Asked.{Asked}
 use Rattle.cycle.specs.declared.acting.Acted.{Acted}

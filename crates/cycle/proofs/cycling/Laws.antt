@@ -16,12 +16,12 @@ use Rattle.fields.specs.Fields.{unless}
 use Rattle.reader.specs.Held.{chartCode}
 use Rattle.reader.specs.declared.chart.Chart.{Chart}
 use Rattle.reader.proofs.held.Sound.{Sound, fits}
+use Rattle.choice.specs.declared.Choice.{Choice}
 use Rattle.cycle.specs.Time.{elapsed, grownCounts, grownTimes}
 use Rattle.cycle.specs.Moving.{initialSet, settledCounters, settledTimers, signalsOf}
 use Rattle.cycle.specs.Choosing.{stepsOf}
 use Rattle.cycle.specs.Belongs.{belongs}
 use Rattle.cycle.specs.Cycling.{Settles, refused, cycleCode, actedOn, started, choiceOf, marksAt, cycled, outputsAfter, answered, movedOn, cycleOn}
-use Rattle.cycle.specs.declared.choosing.Choice.{Choice}
 use Rattle.cycle.specs.declared.moving.Marks.{Marks}
 use Rattle.cycle.specs.declared.acting.Steps.{Steps}
 use Rattle.cycle.specs.declared.acting.Acted.{Acted}

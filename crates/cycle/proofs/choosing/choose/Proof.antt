@@ -5,7 +5,7 @@ use native.Mathlib.Omega.{arith}
 use borrow.Author.Needs.{needs}
 use Rattle.sets.specs.Loops.{turns}
 use Rattle.sets.proofs.Loops.{turns-start, turns-more, turns-end}
-use Rattle.cycle.specs.Choosing.{choosingAt, noneTaken, chosen}
+use Rattle.choice.specs.Choice.{choosingAt, noneTaken, chosen}
 use Rattle.cycle.proofs.choosing.choose.Statement.{statement}
 use Rattle.cycle.proofs.choosing.choose.Tie as tie
 

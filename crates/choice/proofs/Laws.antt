@@ -12,8 +12,8 @@ use Rattle.sets.specs.Sets.{has, Within, Apart}
 use Rattle.sets.proofs.Loops.{and-true, or-true, true-all}
 use Rattle.sets.proofs.Members.{has-zero}
 use Rattle.sets.proofs.Below.{has-union, within-has, apart-has, either, never}
-use Rattle.cycle.specs.Choosing.{ready, ripeAt, ripe, takes, choosingAt, chosen}
-use Rattle.cycle.specs.declared.choosing.Choice.{Choice}
+use Rattle.choice.specs.Choice.{ready, ripeAt, ripe, takes, choosingAt, chosen}
+use Rattle.choice.specs.declared.Choice.{Choice}
 
 record Fair (active k : ℕ) (ch : Choice) : Type 0 where
   left : has (ch .left) k ≡ true → has active k ≡ true

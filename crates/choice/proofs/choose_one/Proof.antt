@@ -1,8 +1,8 @@
 -- The tests say which.
 use mathlib.Core.Path.{sym, _∙_}
 use borrow.Author.Needs.{needs}
-use Rattle.cycle.proofs.choosing.choose_one.Statement.{statement}
-use Rattle.cycle.proofs.choosing.choose_one.Tie as tie
+use Rattle.choice.proofs.choose_one.Statement.{statement}
+use Rattle.choice.proofs.choose_one.Tie as tie
 
 is-ready-requires : tie.Need-is-ready-requires
 is-ready-requires c κs = search needs

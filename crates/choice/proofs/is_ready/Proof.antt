@@ -1,7 +1,7 @@
 -- By its callees' statements.
 use borrow.Author.Needs.{needs}
-use Rattle.cycle.proofs.choosing.is_ready.Statement.{statement}
-use Rattle.cycle.proofs.choosing.is_ready.Tie as tie
+use Rattle.choice.proofs.is_ready.Statement.{statement}
+use Rattle.choice.proofs.is_ready.Tie as tie
 
 is-within-requires : tie.Need-is-within-requires
 is-within-requires c κs = search needs

@@ -1,7 +1,7 @@
 -- By membership.
 use borrow.Author.Needs.{needs}
-use Rattle.cycle.proofs.choosing.ripe_at.Statement.{statement}
-use Rattle.cycle.proofs.choosing.ripe_at.Tie as tie
+use Rattle.choice.proofs.ripe_at.Statement.{statement}
+use Rattle.choice.proofs.ripe_at.Tie as tie
 
 is-in-requires : tie.Need-is-in-requires
 is-in-requires c κs = search needs

@@ -1,7 +1,7 @@
 -- By its callees' statements.
 use borrow.Author.Needs.{needs}
-use Rattle.cycle.proofs.choosing.taking.Statement.{statement}
-use Rattle.cycle.proofs.choosing.taking.Tie as tie
+use Rattle.choice.proofs.taking.Statement.{statement}
+use Rattle.choice.proofs.taking.Tie as tie
 
 with-requires : tie.Need-with-requires
 with-requires c κs = search needs

@@ -9,10 +9,10 @@ use mathlib.Core.Bool.{true}
 use lib.ListN.{getD}
 use Rattle.sets.specs.Loops.{all}
 use Rattle.sets.proofs.Loops.{all-start, all-turn, all-fails, all-done}
-use Rattle.cycle.specs.Choosing.{ripeAt}
-use Rattle.cycle.proofs.choosing.Laws.{at-once}
-use Rattle.cycle.proofs.choosing.is_ripe.Statement.{statement}
-use Rattle.cycle.proofs.choosing.is_ripe.Tie as tie
+use Rattle.choice.specs.Choice.{ripeAt}
+use Rattle.choice.proofs.Laws.{at-once}
+use Rattle.choice.proofs.is_ripe.Statement.{statement}
+use Rattle.choice.proofs.is_ripe.Tie as tie
 
 abbrev Inv-loop : tie.InvT-loop
 Inv-loop wait sources counts k₀ k = (true ≡ all (λ j. ripeAt wait sources j (getD counts j 0)) k) × (k ≤ 64)
