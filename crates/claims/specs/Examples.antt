@@ -22,7 +22,7 @@ use Rattle.reader.proofs.reading.Examples.{chartA}
 use Rattle.choice.specs.Choice.{chosen}
 use Rattle.cycle.specs.Time.{elapsed}
 use Rattle.cycle.specs.Moving.{marksOf, initialSet}
-use Rattle.cycle.specs.Acting.{request, ripens, asked, acted}
+use Rattle.acting.specs.Acting.{request, ripens, asked, acted}
 use Rattle.cycle.specs.Outputs.{first, outputsOf}
 use Rattle.cycle.specs.Cycling.{startOf, cycleOf, outputsAfter}
 use Rattle.cycle.specs.declared.run.Run.{Run}

@@ -1,14 +1,14 @@
 -- "Prove that two answers allowed by one statement are equal": each public function of the parts, by the statement in its source.
-use Prim.Native.Nat.{ℕ, _≤_, _<_}
+use Prim.Native.Nat.{ℕ, _%_, _≤_, _<_}
 use mathlib.Core.Bool.{Bool, cond}
 use mathlib.Core.List.{List}
 use mathlib.Core.Path.{_≡_}
 use lib.IntN.{ℤ}
-use lib.ListN.{length}
+use lib.ListN.{length, getD}
 use mir.Syntax.{w32}
 use mir.Val.{toZ, ofZ}
 use Rattle.sets.specs.Sets.{has, Within, Apart, Below, union, inter, minus, insert, beyond, first, remove, size}
-use Rattle.sets.proofs.Unique.{is-in-unique, is-within-unique, is-apart-unique, names-below-unique, joined-unique, common-unique, without-unique, with-unique, with-if-unique, beyond-unique, first-unique, without-first-unique, size-unique}
+use Rattle.sets.proofs.Unique.{is-in-unique, is-within-unique, is-apart-unique, names-below-unique, joined-unique, common-unique, without-unique, with-unique, with-if-unique, is-in-mod-unique, with-if-mod-unique, beyond-unique, first-unique, without-first-unique, size-unique}
 use Rattle.sets.specs.Loops.{orElse}
 use Rattle.fields.specs.Fields.{timed, unless, stepFits, actionFits, transitionCode, blockFits, caseFits}
 use Rattle.fields.proofs.Unique.{is-timed-unique, or-else-unique, unless-unique, step-fits-unique, action-fits-unique, transition-code-unique, block-fits-unique, case-fits-unique}
@@ -25,6 +25,12 @@ use Rattle.reader.proofs.Unique.{no-chart-unique, held-code-unique, chart-code-
 use Rattle.choice.specs.Choice.{choosing}
 use Rattle.choice.specs.declared.Choice.{Choice}
 use Rattle.choice.proofs.Unique.{choose-one-unique}
+use Rattle.acting.specs.Acting.{requestAt, putting, acted}
+use Rattle.acting.specs.declared.Steps.{Steps}
+use Rattle.acting.specs.declared.Request.{Request}
+use Rattle.acting.specs.declared.Asked.{Asked}
+use Rattle.acting.specs.declared.Acted.{Acted}
+use Rattle.acting.proofs.Unique.{asks-unique, put-unique, act-unique}
 use Rattle.cycle.specs.Run.{noRun, longerCounter, longerTimer}
 use Rattle.cycle.specs.Time.{elapsed}
 use Rattle.cycle.specs.Moving.{initialOf}
@@ -70,6 +76,8 @@ pub record SetsUnique : Type 0 where
   pub without : (a b : ℕ) → One (λ (r : ℕ). r ≡ minus a b)
   pub with : (s k : ℕ) → One (λ (r : ℕ). r ≡ insert s k)
   pub with-if : (s k : ℕ) (b : Bool) → One (λ (r : ℕ). r ≡ cond b (insert s k) s)
+  pub is-in-mod : (s k : ℕ) → One (λ (r : Bool). r ≡ has s (k % 64))
+  pub with-if-mod : (s k : ℕ) (b : Bool) → One (λ (r : ℕ). r ≡ cond b (insert s (k % 64)) s)
   pub beyond : (n : ℕ) → One (λ (r : ℕ). r ≡ beyond n)
   pub without-first : (s : ℕ) → One (λ (r : ℕ). r ≡ remove s (first s))
   pub first : (s : ℕ) → One (λ (r : ℕ). r ≡ first s)
@@ -105,6 +113,13 @@ pub record ReaderUnique : Type 0 where
 pub record ChoiceUnique : Type 0 where
   pub choose-one : (choice : Choice) (t sources targets on off wait : ℕ) (counts : List ℕ) (active signals : ℕ)
       → One (λ (r : Choice). r ≡ choosing choice t sources targets on off wait counts active signals)
+
+-- acting/src/lib.rt
+pub record ActingUnique : Type 0 where
+  pub asks : (qualifier duration step action : ℕ) (counts times : List ℕ) (steps : Steps)
+      → One (λ (r : Request). r ≡ requestAt (step % 64) qualifier duration (getD counts (step % 64) 0) (getD times (action % 32) 0) steps)
+  pub put : (asked : Asked) (action : ℕ) (r : Request) → One (λ (q : Asked). q ≡ putting asked (action % 64) r)
+  pub act : (asked : Asked) (stored latched : ℕ) → One (λ (r : Acted). r ≡ acted asked stored latched)
 
 -- cycle/src: belongs, cycling, moving, run, time
 pub record CycleUnique : Type 0 where
@@ -144,6 +159,7 @@ pub record Unique : Type 0 where
   pub fields : FieldsUnique
   pub reader : ReaderUnique
   pub choice : ChoiceUnique
+  pub acting : ActingUnique
   pub cycle : CycleUnique
   pub trace : TraceUnique
   pub tally : TallyUnique
@@ -162,6 +178,8 @@ unique = record {
     without = without-unique;
     with = with-unique;
     with-if = with-if-unique;
+    is-in-mod = is-in-mod-unique;
+    with-if-mod = with-if-mod-unique;
     beyond = beyond-unique;
     without-first = without-first-unique;
     first = first-unique;
@@ -191,6 +209,7 @@ unique = record {
     read-chart = read-chart-unique;
   };
   choice = record { choose-one = choose-one-unique };
+  acting = record { asks = asks-unique; put = put-unique; act = act-unique };
   cycle = record {
     belongs = λ run steps actions cases. belongs-unique steps actions cases run;
     start = λ chart clock outputs r q f g a b. start-unique chart clock r q outputs f g (a .0) (b .0) (a .1) (b .1);

@@ -2,7 +2,7 @@
 use Prim.Native.Nat.{ℕ}
 use Rattle.sets.specs.Sets.{union, minus}
 use Rattle.choice.specs.declared.Choice.{Choice}
-use Rattle.cycle.specs.declared.acting.Steps.{Steps}
+use Rattle.acting.specs.declared.Steps.{Steps}
 
 abbrev pub movedTo : ℕ → Choice → ℕ
 movedTo active choice = union (minus active (choice .left)) (choice .claimed)

@@ -16,12 +16,12 @@ use Rattle.cycle.specs.Run.{noRun}
 use Rattle.cycle.specs.Time.{elapsed, grownCounts, grownTimes}
 use Rattle.cycle.specs.Choosing.{stepsOf}
 use Rattle.cycle.specs.Moving.{settledCounters, settledTimers, signalsOf, marksOf, initialSet}
-use Rattle.cycle.specs.Acting.{asked, acted}
+use Rattle.acting.specs.Acting.{asked, acted}
 use Rattle.cycle.specs.Outputs.{outputsOf}
 use Rattle.cycle.specs.Belongs.{belongs}
 use Rattle.cycle.specs.declared.moving.Marks.{Marks}
-use Rattle.cycle.specs.declared.acting.Steps.{Steps}
-use Rattle.cycle.specs.declared.acting.Acted.{Acted}
+use Rattle.acting.specs.declared.Steps.{Steps}
+use Rattle.acting.specs.declared.Acted.{Acted}
 use Rattle.cycle.specs.declared.run.Run.{Run}
 use Rattle.cycle.specs.declared.cycling.Cycled.{Cycled}
 

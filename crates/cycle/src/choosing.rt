@@ -3,7 +3,7 @@ ghost use mathlib.Core.Path.{_≡_};
 ghost use Prim.Native.Nat.{_≤_};
 ghost use Rattle.choice.specs.Choice.{chosen};
 ghost use Rattle.cycle.specs.Choosing.{stepsOf};
-use crate::acting::Steps;
+use acting::Steps;
 use choice::Choice;
 
 pub(crate) fn choose<'a>(

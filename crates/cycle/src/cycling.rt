@@ -6,12 +6,10 @@ ghost use Prim.Native.Nat.{_≤_};
 ghost use lib.ListN.{length, drop};
 ghost use Rattle.reader.specs.Held.{chartCode};
 ghost use Rattle.cycle.specs.Belongs.{belongs};
-ghost use Rattle.cycle.specs.Acting.{asked, acted};
+ghost use Rattle.acting.specs.Acting.{asked, acted};
 ghost use Rattle.cycle.specs.Outputs.{outputsOf};
 ghost use Rattle.cycle.specs.Cycling.{Settles, chartOf, cycleCode, startOf, movedOn, cycleOf, cycleOn, outputsAfter, refused};
-use crate::acting;
-use crate::acting::Acted;
-use crate::acting::Steps;
+use crate::asking;
 use crate::belongs;
 use crate::choosing;
 use crate::codes::FEW_OUTPUTS;
@@ -22,6 +20,8 @@ use crate::outputs;
 use crate::run::Run;
 use crate::run::no_run;
 use crate::time;
+use acting::Acted;
+use acting::Steps;
 use reader::Chart;
 
 pub struct Cycled {
@@ -60,7 +60,7 @@ fn settle<'a>(
     requires { ⌜ Settles (length (now outputs)) actions (now output) blocks (now blockstep) (now blockaction) ⌝ }
     ensures { λ r. ⌜ (r ≡ acted (asked blocks (now (blockstep .entry)) (now (blockaction .entry)) (now (qualifier .entry)) (now (duration .entry)) (now (counts .entry)) (now (times .entry)) steps) stored latched) × (now (outputs .exit) ≡ outputsOf actions (now (output .entry)) (now (value .entry)) (r .activity) ++ drop 32 (now (outputs .entry))) ⌝ }
 {
-    let asked = acting::ask_blocks(
+    let asked = asking::ask_blocks(
         blocks,
         blockstep,
         blockaction,

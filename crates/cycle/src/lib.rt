@@ -1,5 +1,5 @@
 // The run of a chart: start, one cycle, and the test of a held run (document 01, "One cycle").
-pub mod acting;
+pub mod asking;
 pub mod belongs;
 pub mod choosing;
 pub mod codes;
@@ -8,7 +8,6 @@ pub mod moving;
 pub mod outputs;
 pub mod run;
 pub mod time;
-pub mod words;
 
 pub use cycling::Cycled;
 pub use cycling::cycle;

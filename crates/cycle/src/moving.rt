@@ -5,7 +5,6 @@ ghost use lib.ListN.{getD};
 ghost use Rattle.cycle.specs.Moving.{settledCounters, settledTimers, asExpected, marksOf, initialSet, initialOf, signalsOf};
 use crate::run::ActionTimer;
 use crate::run::StepCounter;
-use crate::words;
 use reader::numbers;
 
 pub struct Marks {
@@ -53,7 +52,7 @@ fn as_expected(signal: usize, expected: u8, signals: u64) -> bool
     requires { ⌜ signal < 64 ⌝ }
     ensures { λ r. ⌜ r ≡ asExpected signal expected signals ⌝ }
 {
-    words::is_in(signals, signal) == (expected == 1)
+    sets::is_in_mod(signals, signal) == (expected == 1)
 }
 
 pub(crate) fn marks_of<'a>(
@@ -71,10 +70,10 @@ pub(crate) fn marks_of<'a>(
     let mut bad = 0u64;
     let mut i = 0;
     while i < n {
-        if words::is_in(left, numbers::index_of(step[i])) {
+        if sets::is_in_mod(left, numbers::index_of(step[i])) {
             let fine = as_expected(numbers::index_of(signal[i]), expected[i], signals);
-            good = words::with_if(good, i, fine);
-            bad = words::with_if(bad, i, !fine);
+            good = sets::with_if_mod(good, i, fine);
+            bad = sets::with_if_mod(bad, i, !fine);
         }
         i += 1;
     }

@@ -12,7 +12,7 @@ use Rattle.reader.specs.Reading.{readFrom}
 use Rattle.reader.proofs.reading.Examples.{chartA}
 use Rattle.choice.specs.Choice.{chosen}
 use Rattle.cycle.specs.Moving.{marksOf, initialSet}
-use Rattle.cycle.specs.Acting.{asked, acted}
+use Rattle.acting.specs.Acting.{asked, acted}
 use Rattle.report.specs.Lines.{text, hex, decimalFrom, decimal, acceptedLine, refusedLine, chartLine, traceLine, tallyLine}
 use Rattle.trace.specs.Tracing.{callAt}
 use Rattle.report.specs.Printing.{printedFrom, printedRun}

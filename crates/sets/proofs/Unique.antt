@@ -1,5 +1,5 @@
 -- Two answers that one statement allows are equal: the general law, and a line for each public function.
-use Prim.Native.Nat.{ℕ}
+use Prim.Native.Nat.{ℕ, _%_}
 use mathlib.Core.Bool.{Bool, cond}
 use mathlib.Core.Path.{_≡_, sym, _∙_}
 use Rattle.sets.specs.Sets.{has, Within, Apart, Below, union, inter, minus, insert, beyond, first, remove, size}
@@ -33,6 +33,12 @@ common-unique a b r q = one-answer
 
 pub with-if-unique : (s k : ℕ) (b : Bool) (r q : ℕ) → r ≡ cond b (insert s k) s → q ≡ cond b (insert s k) s → r ≡ q
 with-if-unique s k b r q = one-answer
+
+pub is-in-mod-unique : (s k : ℕ) (r q : Bool) → r ≡ has s (k % 64) → q ≡ has s (k % 64) → r ≡ q
+is-in-mod-unique s k r q = one-answer
+
+pub with-if-mod-unique : (s k : ℕ) (b : Bool) (r q : ℕ) → r ≡ cond b (insert s (k % 64)) s → q ≡ cond b (insert s (k % 64)) s → r ≡ q
+with-if-mod-unique s k b r q = one-answer
 
 pub beyond-unique : (n r q : ℕ) → r ≡ beyond n → q ≡ beyond n → r ≡ q
 beyond-unique n r q = one-answer

@@ -1,4 +1,5 @@
 // Sets of numbers below 64 as one word: bit k is number k (document 01, "The chart and its bytes").
+ghost use Prim.Native.Nat.{_%_};
 ghost use mathlib.Core.Path.{_≡_};
 ghost use mathlib.Core.Bool.{cond};
 ghost use Rattle.sets.specs.Sets.{has, Within, Apart, Below, union, inter, minus, insert, beyond, first, remove, size};
@@ -66,6 +67,20 @@ pub fn with_if(s: u64, k: usize, b: bool) -> u64
     ensures { λ r. ⌜ r ≡ cond b (insert s k) s ⌝ }
 {
     if b { with(s, k) } else { s }
+}
+
+// Membership and insertion without a test, for numbers that are known to be below 64: any other counts as its rest by 64, as the machine's
+// shifts have it.
+pub fn is_in_mod(s: u64, k: usize) -> bool
+    ensures { λ r. ⌜ r ≡ has s (k % 64) ⌝ }
+{
+    (s >> (k % 64)) % 2 == 1
+}
+
+pub fn with_if_mod(s: u64, k: usize, b: bool) -> u64
+    ensures { λ r. ⌜ r ≡ cond b (insert s (k % 64)) s ⌝ }
+{
+    if b { s | 1 << (k % 64) } else { s }
 }
 
 pub fn beyond(n: usize) -> u64

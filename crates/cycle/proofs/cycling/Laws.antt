@@ -23,8 +23,8 @@ use Rattle.cycle.specs.Choosing.{stepsOf}
 use Rattle.cycle.specs.Belongs.{belongs}
 use Rattle.cycle.specs.Cycling.{Settles, refused, cycleCode, actedOn, started, choiceOf, marksAt, cycled, outputsAfter, answered, movedOn, cycleOn}
 use Rattle.cycle.specs.declared.moving.Marks.{Marks}
-use Rattle.cycle.specs.declared.acting.Steps.{Steps}
-use Rattle.cycle.specs.declared.acting.Acted.{Acted}
+use Rattle.acting.specs.declared.Steps.{Steps}
+use Rattle.acting.specs.declared.Acted.{Acted}
 use Rattle.cycle.specs.declared.run.StepCounter.{StepCounter}
 use Rattle.cycle.specs.declared.run.ActionTimer.{ActionTimer}
 use Rattle.cycle.specs.declared.run.Run.{Run}

@@ -4,6 +4,7 @@ use mathlib.Core.List.{List}
 use mathlib.Core.Bool.{Bool, true, false, _||_, not, cond}
 use mathlib.Core.Path.{_≡_, ap, ap₂, _∙_, refl}
 use native.Mathlib.Omega.{arith}
+use native.Mathlib.Nat.{mod-eq-of-lt}
 use lib.Pow.{shl-exact}
 use lib.Dec.{ltb}
 use lib.ListN.{getD}
@@ -35,12 +36,15 @@ module _ (step signal expected : List ℕ) (left signals : ℕ) where
   none-marked = record { goods = collect-start _; bads = collect-start _ }
 
   -- one case more: s is its step, which was left or not
-  module _ (i g b g' b' s : ℕ) (on : Bool) (l : i < 64) (m : Marked i g b) (e : s ≡ getD step i 0) (o : on ≡ has left s) where
+  module _ (i g b g' b' s : ℕ) (on : Bool) (l : i < 64) (m : Marked i g b) (e : s ≡ getD step i 0) (below : s < 64) (asked : on ≡ has left (s % 64)) where
+    o : on ≡ has left s
+    o = asked ∙ ap (has left) (mod-eq-of-lt below)
+
     pub one-marked : (t : ℕ) (fine : Bool) → on ≡ true → t ≡ getD signal i 0 → fine ≡ asExpected t (getD expected i 0) signals
-        → g' ≡ cond fine (insert g i) g → b' ≡ cond (not fine) (insert b i) b → Marked (i + 1) g' b'
+        → g' ≡ cond fine (insert g (i % 64)) g → b' ≡ cond (not fine) (insert b (i % 64)) b → Marked (i + 1) g' b'
     one-marked t fine h q f x y = record {
-      goods = collect-turn _ i g g' fine l (m .goods) (rw (← e, ← o, h, ← q) f) x;
-      bads = collect-turn _ i b b' (not fine) l (m .bads) (rw (← e, ← o, h, ← q) (ap not f)) y;
+      goods = collect-turn _ i g g' fine l (m .goods) (rw (← e, ← o, h, ← q) f) (rw (mod-eq-of-lt l) at x);
+      bads = collect-turn _ i b b' (not fine) l (m .bads) (rw (← e, ← o, h, ← q) (ap not f)) (rw (mod-eq-of-lt l) at y);
     }
 
     pub one-passed : on ≡ false → g' ≡ g → b' ≡ b → Marked (i + 1) g' b'

@@ -1,13 +1,14 @@
 -- By membership.
+use native.Mathlib.Nat.{mod-eq-of-lt}
 use borrow.Author.Needs.{needs}
 use Rattle.cycle.proofs.moving.as_expected.Statement.{statement}
 use Rattle.cycle.proofs.moving.as_expected.Tie as tie
 
-is-in-requires : tie.Need-is-in-requires
-is-in-requires c κs = search needs
+is-in-mod-requires : tie.Need-is-in-mod-requires
+is-in-mod-requires c κs = search needs
 
 returns : tie.Need-returns
-returns c = rw (c .is-in .ensures)
+returns c = rw (c .is-in-mod .ensures, mod-eq-of-lt (c .before .pre))
 
 pub as-expected-spec : {M : Type 1} → statement M
-as-expected-spec = tie.close (tie.spec is-in-requires returns)
+as-expected-spec = tie.close (tie.spec is-in-mod-requires returns)

@@ -31,8 +31,8 @@ element-copy-out-index-of c = omega arith
 index-of-requires : tie.Need-index-of-requires Inv-loop μ-loop
 index-of-requires c κs = search needs
 
-is-in-requires : tie.Need-is-in-requires Inv-loop μ-loop
-is-in-requires c κs = omega (arith, c .index-of .ensures .0, small (c .before .before) .0)
+is-in-mod-requires : tie.Need-is-in-mod-requires Inv-loop μ-loop
+is-in-mod-requires c κs = search needs
 
 element-copy-out-index-of-2 : tie.Need-element-copy-out-index-of-2 Inv-loop μ-loop
 element-copy-out-index-of-2 c = omega arith
@@ -46,11 +46,11 @@ element-copy-out-as-expected c = omega arith
 as-expected-requires : tie.Need-as-expected-requires Inv-loop μ-loop
 as-expected-requires c κs = omega (arith, c .before .index-of2 .ensures .0, small (c .before .before .before .before .before .before .before) .1)
 
-with-if-requires : tie.Need-with-if-requires Inv-loop μ-loop
-with-if-requires c κs = omega arith
+with-if-mod-requires : tie.Need-with-if-mod-requires Inv-loop μ-loop
+with-if-mod-requires c κs = search needs
 
-with-if-requires-2 : tie.Need-with-if-requires-2 Inv-loop μ-loop
-with-if-requires-2 c κs = omega arith
+with-if-mod-requires-2 : tie.Need-with-if-mod-requires-2 Inv-loop μ-loop
+with-if-mod-requires-2 c κs = search needs
 
 add-i : tie.Need-add-i Inv-loop μ-loop
 add-i c = omega arith
@@ -62,9 +62,10 @@ loop-again : tie.Need-loop-again Inv-loop μ-loop
 loop-again c =
     let l = c .before .before .before .before .before .loop in
     let e = c .before .before .index-of .ensures .0 in
-    let o = c .before .is-in .ensures in (
-      ⊎-elim (λ w. one-marked _ _ _ _ _ _ _ _ _ _ _ _ (omega arith) (l .inv .0) e o _ _ (w .0 .taken) (w .2 .ensures .0) (w .4 .ensures) (w .7 ∙ w .5 .ensures) (w .8 ∙ w .6 .ensures))
-          (λ w. one-passed _ _ _ _ _ _ _ _ _ _ _ _ (omega arith) (l .inv .0) e o (w .0 .left) (w .1) (w .2)) (c .if1 .came),
+    let b : c .before .before .index-of .result < 64 = omega (arith, e, small (c .before .before .before .before) .0) in
+    let o = c .before .is-in-mod .ensures in (
+      ⊎-elim (λ w. one-marked _ _ _ _ _ _ _ _ _ _ _ _ (omega arith) (l .inv .0) e b o _ _ (w .0 .taken) (w .2 .ensures .0) (w .4 .ensures) (w .7 ∙ w .5 .ensures) (w .8 ∙ w .6 .ensures))
+          (λ w. one-passed _ _ _ _ _ _ _ _ _ _ _ _ (omega arith) (l .inv .0) e b o (w .0 .left) (w .1) (w .2)) (c .if1 .came),
       omega arith,
     )
 
@@ -83,13 +84,13 @@ marks-of-spec =
     loop-holds
     element-copy-out-index-of
     index-of-requires
-    is-in-requires
+    is-in-mod-requires
     element-copy-out-index-of-2
     index-of-requires-2
     element-copy-out-as-expected
     as-expected-requires
-    with-if-requires
-    with-if-requires-2
+    with-if-mod-requires
+    with-if-mod-requires-2
     add-i
     loop-less
     loop-again

@@ -7,7 +7,8 @@ use mir.Facts.{toZ-ofZ}
 use borrow.Author.Needs.{needs}
 use Rattle.cycle.specs.Outputs.{outputOf}
 use Rattle.cycle.proofs.outputs.Laws.{front-as, Front, front-put, front-end, from, from-end, from-all, from-idle, from-written, from-other}
-use Prim.Native.Nat.{ℕ, _<_, _≤_, _-_}
+use Prim.Native.Nat.{ℕ, _<_, _≤_, _-_, _%_}
+use native.Mathlib.Nat.{mod-eq-of-lt}
 use native.Mathlib.Omega.{arith}
 use lib.IntN.{pos}
 use lib.ListN.{getD}
@@ -30,14 +31,18 @@ small c =
     below : (a n : ℕ) → 0 < a → a ≤ n → a - 1 < n
     below a n h k = omega arith
 
+-- an action's number is below 64
+low : (a n : ℕ) → a ≤ n → n ≤ 32 → (a - 1) % 64 ≡ a - 1
+low a n l h = mod-eq-of-lt (omega arith)
+
 loop-holds : tie.Need-loop-holds Inv-loop μ-loop
 loop-holds c = (record { long = refl; passed = λ j h. from-end _ _ _ _ _ j; behind = refl }, omega arith)
 
 sub-a : tie.Need-sub-a Inv-loop μ-loop
 sub-a c = omega arith
 
-is-in-requires : tie.Need-is-in-requires Inv-loop μ-loop
-is-in-requires c κs = omega arith
+is-in-mod-requires : tie.Need-is-in-mod-requires Inv-loop μ-loop
+is-in-mod-requires c κs = search needs
 
 mul-out : tie.Need-mul-out Inv-loop μ-loop
 mul-out c = omega arith
@@ -68,7 +73,7 @@ loop-again c =
     let turn = active .before .before in
     let l = turn .before .loop in
     let s = turn .before .before in
-    let f = sym (active .before .is-in .ensures) ∙ active .if1 .taken in
+    let f = rw (low (l .a) _ (l .inv .1) (s .pre .1)) at (sym (active .before .is-in-mod .ensures) ∙ active .if1 .taken) in
     let fits : SFits w32 (getD (now (s .args .value)) (l .a - 1) (pos 0)) = search needs in (
       front-put 32 _ _ _ _ _ _ _ (l .inv .0) (small c) (s .pre .0)
           (toZ-ofZ {w = w32} fits ∙ from-written (s .args .n) (now (s .args .output)) (now (s .args .value)) (s .args .activity) (l .a) _ (turn .loop-test .taken) (l .inv .1) _ f (c .index-of .ensures .0))
@@ -84,7 +89,7 @@ loop-again-2 c =
     let turn = c .before .before in
     let l = turn .before .loop in
     let s = turn .before .before in
-    (front-as 32 _ _ 32 _ _ (l .inv .0) (λ j q. from-idle (s .args .n) _ _ _ (l .a) _ (turn .loop-test .taken) (l .inv .1) j (sym (c .before .is-in .ensures) ∙ c .if1 .left)), omega arith)
+    (front-as 32 _ _ 32 _ _ (l .inv .0) (λ j q. from-idle (s .args .n) _ _ _ (l .a) _ (turn .loop-test .taken) (l .inv .1) j (rw (low (l .a) _ (l .inv .1) (s .pre .1)) at (sym (c .before .is-in-mod .ensures) ∙ c .if1 .left))), omega arith)
 
 same-length : tie.Need-same-length Inv-loop μ-loop
 same-length c = c .before .loop .inv .0 .long
@@ -107,7 +112,7 @@ drive-spec =
     μ-loop
     loop-holds
     sub-a
-    is-in-requires
+    is-in-mod-requires
     mul-out
     element-copy-out-out
     element-copy-out-index-of

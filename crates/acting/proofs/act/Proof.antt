@@ -1,8 +1,8 @@
 -- By its callees' statements, the last call first.
-use Rattle.cycle.specs.Acting.{acted}
+use Rattle.acting.specs.Acting.{acted}
 use borrow.Author.Needs.{needs}
-use Rattle.cycle.proofs.acting.act.Statement.{statement}
-use Rattle.cycle.proofs.acting.act.Tie as tie
+use Rattle.acting.proofs.act.Statement.{statement}
+use Rattle.acting.proofs.act.Tie as tie
 
 joined-requires : tie.Need-joined-requires
 joined-requires c κs = search needs

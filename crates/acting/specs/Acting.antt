@@ -11,12 +11,15 @@ use lib.ListN.{getD}
 use lib.Dec.{leb, ltb, eqb}
 use Rattle.sets.specs.Sets.{has, union, inter, minus, insert, named}
 use Rattle.fields.specs.Fields.{N, R, S, L, D, P, SD, DS, SL, P1, P0}
-use Rattle.cycle.specs.Moving.{keptCount}
-use Rattle.cycle.specs.declared.acting.Steps.{Steps}
-use Rattle.cycle.specs.declared.acting.Request.{Request}
-use Rattle.cycle.specs.declared.acting.Request.the-variants.{Reset, Set, Latch, Want}
-use Rattle.cycle.specs.declared.acting.Asked.{Asked}
-use Rattle.cycle.specs.declared.acting.Acted.{Acted}
+use Rattle.acting.specs.declared.Steps.{Steps}
+use Rattle.acting.specs.declared.Request.{Request}
+use Rattle.acting.specs.declared.Request.the-variants.{Reset, Set, Latch, Want}
+use Rattle.acting.specs.declared.Asked.{Asked}
+use Rattle.acting.specs.declared.Acted.{Acted}
+
+-- the number at k if k is kept, else 0
+abbrev pub keptCount : ℕ → ℕ → ℕ → ℕ
+keptCount kept k n = cond (has kept k) n 0
 
 -- what a block asks by its qualifier and duration: its step is active, was entered, was left; the step's counter, the action's timer
 abbrev pub request : ℕ → ℕ → Bool → Bool → Bool → ℕ → ℕ → Request

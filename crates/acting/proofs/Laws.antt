@@ -1,18 +1,20 @@
 -- What the first blocks ask, and what one block more makes of it.
-use Prim.Native.Nat.{ℕ, suc, _+_, _<_}
+use Prim.Native.Nat.{ℕ, suc, _+_, _%_, _<_}
 use mathlib.Core.List.{List}
 use mathlib.Core.Path.{_≡_, _∙_}
+use native.Mathlib.Nat.{mod-eq-of-lt}
 use native.Mathlib.Numerals.{add-one}
+use native.Mathlib.Omega.{arith}
 use lib.ListN.{getD}
 use mathlib.Core.Bool.{true, false}
 use Rattle.sets.specs.Sets.{has, union, inter, minus}
 use Rattle.sets.proofs.Loops.{and-no}
 use Rattle.sets.proofs.Members.{named-start, named-turn}
 use Rattle.sets.proofs.Below.{has-union, has-minus}
-use Rattle.cycle.specs.Acting.{putting, asked, resets, sets, latches, wants, ripens, requestAt, requestOf, storedAfter, latchedAfter, acted}
-use Rattle.cycle.specs.declared.acting.Steps.{Steps}
-use Rattle.cycle.specs.declared.acting.Request.{Request}
-use Rattle.cycle.specs.declared.acting.Asked.{Asked}
+use Rattle.acting.specs.Acting.{putting, asked, resets, sets, latches, wants, ripens, requestAt, requestOf, storedAfter, latchedAfter, acted}
+use Rattle.acting.specs.declared.Steps.{Steps}
+use Rattle.acting.specs.declared.Request.{Request}
+use Rattle.acting.specs.declared.Asked.{Asked}
 
 module _ (step action qualifier duration counts times : List ℕ) (steps : Steps) where
   abbrev asks : ℕ → Request
@@ -43,10 +45,14 @@ module _ (step action qualifier duration counts times : List ℕ) (steps : Steps
         named-turn (λ b. ripens (asks b)) of b,
       )
 
-  pub one-asked : (b : ℕ) (x y : Asked) (s a : ℕ) (r : Request) → x ≡ asked b step action qualifier duration counts times steps → s ≡ getD step b 0 → a ≡ getD action b 0
-      → r ≡ requestAt s (getD qualifier b 0) (getD duration b 0) (getD counts s 0) (getD times a 0) steps → y ≡ putting x a r
+  -- a block of a chart that passed its test: its numbers are below 64 and 32
+  pub one-asked : (b : ℕ) (x y : Asked) (s a : ℕ) (r : Request) → getD step b 0 < 64 → getD action b 0 < 32
+      → x ≡ asked b step action qualifier duration counts times steps → s ≡ getD step b 0 → a ≡ getD action b 0
+      → r ≡ requestAt (s % 64) (getD qualifier b 0) (getD duration b 0) (getD counts (s % 64) 0) (getD times (a % 32) 0) steps → y ≡ putting x (a % 64) r
       → y ≡ asked (b + 1) step action qualifier duration counts times steps
-  one-asked b x y s a r e p q w h = h ∙ rw (w, e, p, q, add-one) (turn b)
+  one-asked b x y s a r l m e p q w h =
+      let wide : getD action b 0 < 64 = omega (arith, m) in
+      h ∙ rw (w, e, p, q, mod-eq-of-lt l, mod-eq-of-lt m, mod-eq-of-lt wide, add-one) (turn b)
 
 -- ---- reset wins, and only a reset clears a latch
 

@@ -6,10 +6,10 @@ use lib.ListN.{getD}
 use native.Mathlib.Omega.{arith}
 use borrow.Author.Needs.{needs}
 use native.Mathlib.Nat.{le-antisymm}
-use Rattle.cycle.specs.Acting.{asked as so-far}
-use Rattle.cycle.proofs.acting.Laws.{none-asked, one-asked}
-use Rattle.cycle.proofs.acting.ask_blocks.Statement.{statement}
-use Rattle.cycle.proofs.acting.ask_blocks.Tie as tie
+use Rattle.acting.specs.Acting.{asked as so-far}
+use Rattle.acting.proofs.Laws.{none-asked, one-asked}
+use Rattle.cycle.proofs.asking.ask_blocks.Statement.{statement}
+use Rattle.cycle.proofs.asking.ask_blocks.Tie as tie
 
 abbrev Inv-loop : tie.InvT-loop
 Inv-loop n blockstep blockaction qualifier duration counts times steps asked₀ i₀ asked i = (asked ≡ so-far i blockstep blockaction qualifier duration counts times steps) × (i ≤ n)
@@ -46,12 +46,10 @@ element-copy-out-asks-2 : tie.Need-element-copy-out-asks-2 Inv-loop μ-loop
 element-copy-out-asks-2 c = omega arith
 
 asks-requires : tie.Need-asks-requires Inv-loop μ-loop
-asks-requires c κs =
-    let turn = small (c .before .before .before .before .before .before) in
-    (omega (arith, c .before .before .before .before .index-of .ensures .0, turn .0), omega (arith, c .before .before .index-of2 .ensures .0, turn .1))
+asks-requires c κs = search needs
 
 put-requires : tie.Need-put-requires Inv-loop μ-loop
-put-requires c κs = omega (arith, c .before .before .before .index-of2 .ensures .0, small (c .before .before .before .before .before .before .before) .1)
+put-requires c κs = search needs
 
 add-i : tie.Need-add-i Inv-loop μ-loop
 add-i c = omega arith
@@ -63,7 +61,8 @@ loop-again : tie.Need-loop-again Inv-loop μ-loop
 loop-again c =
     let action = c .before .before .before .before in
     let step = action .before .before in
-    (one-asked _ _ _ _ _ _ _ _ _ _ _ _ _ (step .before .before .before .loop .inv .0) (step .index-of .ensures .0) (action .index-of2 .ensures .0) (c .before .asks .ensures) (c .put .ensures), omega arith)
+    let turn = small (step .before .before) in
+    (one-asked _ _ _ _ _ _ _ _ _ _ _ _ _ (turn .0) (turn .1) (step .before .before .before .loop .inv .0) (step .index-of .ensures .0) (action .index-of2 .ensures .0) (c .before .asks .ensures) (c .put .ensures), omega arith)
 
 returns : tie.Need-returns Inv-loop μ-loop
 returns c = rw (le-antisymm (c .loop-test .left) (c .before .loop .inv .1)) (c .before .loop .inv .0)
