@@ -21,22 +21,22 @@ use Rattle.reader.specs.declared.chart.Chart.{Chart}
 use Rattle.reader.specs.declared.reading.Reading.{Reading}
 use Rattle.reader.proofs.framing.Laws.{is-record}
 use Rattle.reader.proofs.reading.Accepted.{read-accepted, read-refused}
-use Rattle.cycle.specs.Run.{noRun}
+use Rattle.reader.proofs.held.Each.{chart-each}
+use Rattle.run.specs.Run.{noRun}
+use Rattle.run.specs.Belongs.{belongs}
+use Rattle.run.specs.declared.run.Run.{Run}
 use Rattle.cycle.specs.Time.{elapsed}
-use Rattle.cycle.specs.Belongs.{belongs}
 use Rattle.cycle.specs.Outputs.{outputsOf}
 use Rattle.cycle.specs.Cycling.{startCode, cycleCode, startOf, cycleOf, outputsAfter}
-use Rattle.cycle.specs.declared.run.Run.{Run}
 use Rattle.cycle.specs.declared.cycling.Cycled.{Cycled}
 use Rattle.cycle.proofs.cycling.Kept.{start-refused, cycle-refused}
 use Rattle.cycle.proofs.cycling.Laws.{few, enough, stops, goes-on, other-run, own-run, too-late, in-time}
+use Rattle.trace.specs.Tracing.{recordFits, traceNumber}
 use Rattle.tally.specs.Tallying.{tallyCode, tallyOf}
 use Rattle.tally.specs.Weighing.{balanced, unbalancedIn, weighCode, refused, weighed, weighOf}
-use Rattle.trace.specs.Tracing.{recordFits, traceNumber}
 use Rattle.tally.specs.declared.tallying.Tallied.{Tallied}
 use Rattle.tally.specs.declared.weighing.Weighed.{Weighed}
 use Rattle.tally.proofs.weighing.Laws.{weights-refused, balance-refused, accepted}
-use Rattle.reader.proofs.held.Each.{chart-each}
 use Rattle.claims.specs.Numbers.{record-each, read-each, start-each, cycle-each, tally-each, weigh-each, trace-each, start-code, cycle-code, tally-code, weigh-code, tally-refused, weigh-refused, weigh-names, all-balanced, first-unbalanced, left-alone, front-written, rest-kept}
 
 -- ---- the numbers

@@ -11,11 +11,11 @@ use Rattle.fields.specs.Fields.{unless}
 use Rattle.reader.specs.Held.{chartCode}
 use Rattle.reader.specs.declared.chart.Chart.{Chart}
 use Rattle.reader.proofs.held.Sound.{sound}
-use Rattle.cycle.specs.Run.{noRun}
+use Rattle.run.specs.Run.{noRun}
+use Rattle.run.specs.declared.run.Run.{Run}
 use Rattle.cycle.specs.Time.{elapsed, grownCounts}
 use Rattle.cycle.specs.Moving.{signalsOf, initialSet}
 use Rattle.cycle.specs.Cycling.{refused, startCode, cycleCode, started, startOf, choiceOf, cycled}
-use Rattle.cycle.specs.declared.run.Run.{Run}
 use Rattle.cycle.specs.declared.cycling.Cycled.{Cycled}
 use Rattle.claims.specs.Moves.{among, chosen-is, moved}
 use Rattle.claims.specs.Runs.{Call, answer, begun, one}

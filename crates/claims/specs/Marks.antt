@@ -17,12 +17,12 @@ use Rattle.fields.specs.Fields.{unless}
 use Rattle.reader.specs.Held.{chartCode}
 use Rattle.reader.specs.declared.chart.Chart.{Chart}
 use Rattle.reader.proofs.held.Sound.{sound}
-use Rattle.cycle.specs.Run.{noRun}
+use Rattle.run.specs.Run.{noRun}
+use Rattle.run.specs.Belongs.{belongs}
+use Rattle.run.specs.declared.run.Run.{Run}
 use Rattle.cycle.specs.Time.{elapsed, grownCounts}
-use Rattle.cycle.specs.Belongs.{belongs}
 use Rattle.cycle.specs.Moving.{signalsOf, asExpected, marksOf}
 use Rattle.cycle.specs.Cycling.{refused, startCode, cycleCode, started, startOf, choiceOf, cycled}
-use Rattle.cycle.specs.declared.run.Run.{Run}
 use Rattle.cycle.specs.declared.cycling.Cycled.{Cycled}
 use Rattle.cycle.proofs.cycling.Kept.{cycle-keeps}
 use Rattle.claims.specs.Runs.{Call, answer, after, begun, one}

@@ -22,16 +22,16 @@ use Rattle.reader.specs.declared.bodies.Body.the-variants.{Step, Action, Transi
 use Rattle.reader.specs.declared.chart.Chart.{Chart}
 use Rattle.reader.specs.declared.reading.Reading.{Reading}
 use Rattle.reader.proofs.held.Each.{either, else-each, transition-each, closing-each, chart-each}
-use Rattle.cycle.specs.Run.{noRun}
+use Rattle.run.specs.Run.{noRun}
+use Rattle.run.specs.Belongs.{belongs}
+use Rattle.run.specs.declared.run.Run.{Run}
 use Rattle.cycle.specs.Time.{elapsed}
-use Rattle.cycle.specs.Belongs.{belongs}
 use Rattle.cycle.specs.Outputs.{outputsOf}
 use Rattle.cycle.specs.Cycling.{refused as turned-away, startCode, cycleCode, started, startOf, cycled, cycleOf, outputsAfter}
-use Rattle.cycle.specs.declared.run.Run.{Run}
 use Rattle.cycle.specs.declared.cycling.Cycled.{Cycled}
+use Rattle.trace.specs.Tracing.{isOver, recordFits, traceNumber}
 use Rattle.tally.specs.Tallying.{countsOf, refused as uncounted, tallyCode, tallyOf}
 use Rattle.tally.specs.Weighing.{balanced, unbalanced, unbalancedIn, weighCode, refused as unweighed, weighed, weighOf}
-use Rattle.trace.specs.Tracing.{isOver, recordFits, traceNumber}
 use Rattle.tally.specs.declared.tallying.Tallied.{Tallied}
 use Rattle.tally.specs.declared.weighing.Weighed.{Weighed}
 

@@ -6,8 +6,8 @@ use lib.ListN.{getD}
 use lib.Dec.{eqb}
 use Rattle.sets.specs.Sets.{has}
 use Rattle.reader.specs.declared.chart.Chart.{Chart}
+use Rattle.run.specs.declared.run.Run.{Run}
 use Rattle.cycle.specs.Cycling.{startOf, cycleOf}
-use Rattle.cycle.specs.declared.run.Run.{Run}
 use Rattle.cycle.specs.declared.cycling.Cycled.{Cycled}
 
 -- one call of the cycle: the clock, the inputs, and how many outputs are lent

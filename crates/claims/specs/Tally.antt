@@ -10,9 +10,9 @@ use Rattle.sets.proofs.Loops.{or-true, or-false}
 use Rattle.sets.proofs.Counts.{counted-same}
 use Rattle.reader.specs.Held.{chartCode}
 use Rattle.reader.specs.declared.chart.Chart.{Chart}
+use Rattle.run.specs.declared.run.Run.{Run}
 use Rattle.cycle.specs.Cycling.{startOf}
 use Rattle.cycle.specs.Moving.{signalsOf, asExpected}
-use Rattle.cycle.specs.declared.run.Run.{Run}
 use Rattle.cycle.specs.declared.cycling.Cycled.{Cycled}
 use Rattle.cycle.proofs.cycling.Kept.{start-belongs}
 use Rattle.tally.specs.Tallying.{isPassed, isFailed, isNotRun, countsOf, tallyOf}

@@ -31,30 +31,31 @@ use Rattle.acting.specs.declared.Request.{Request}
 use Rattle.acting.specs.declared.Asked.{Asked}
 use Rattle.acting.specs.declared.Acted.{Acted}
 use Rattle.acting.proofs.Unique.{asks-unique, put-unique, act-unique}
-use Rattle.cycle.specs.Run.{noRun, longerCounter, longerTimer}
+use Rattle.run.specs.Run.{noRun, longerCounter, longerTimer}
+use Rattle.run.specs.Belongs.{belongsTo}
+use Rattle.run.specs.declared.run.StepCounter.{StepCounter}
+use Rattle.run.specs.declared.run.ActionTimer.{ActionTimer}
+use Rattle.run.specs.declared.run.Run.{Run}
+use Rattle.run.proofs.Unique.{belongs-unique, counter-longer-unique, timer-longer-unique, no-run-unique}
 use Rattle.cycle.specs.Time.{elapsed}
 use Rattle.cycle.specs.Moving.{initialOf}
-use Rattle.cycle.specs.Belongs.{belongsTo}
 use Rattle.cycle.specs.Cycling.{startOf, cycleOf, outputsAfter, cycleOn}
-use Rattle.cycle.specs.declared.run.StepCounter.{StepCounter}
-use Rattle.cycle.specs.declared.run.ActionTimer.{ActionTimer}
-use Rattle.cycle.specs.declared.run.Run.{Run}
 use Rattle.cycle.specs.declared.cycling.Cycled.{Cycled}
-use Rattle.cycle.proofs.Unique.{belongs-unique, start-unique, cycle-unique, cycle-on-unique, initial-of-unique, counter-longer-unique, timer-longer-unique, no-run-unique, elapsed-unique}
+use Rattle.cycle.proofs.Unique.{start-unique, cycle-unique, cycle-on-unique, initial-of-unique, elapsed-unique}
+use Rattle.trace.specs.Tracing.{callAt, numberOf, traceNumber}
+use Rattle.trace.specs.declared.tracing.Call.{Call}
+use Rattle.trace.proofs.Unique.{call-at-unique}
 use Rattle.tally.specs.Tallying.{tallyOf}
 use Rattle.tally.specs.Weighing.{weighOf}
-use Rattle.trace.specs.Tracing.{callAt, numberOf, traceNumber}
+use Rattle.tally.specs.declared.tallying.Tallied.{Tallied}
+use Rattle.tally.specs.declared.weighing.Weighed.{Weighed}
+use Rattle.tally.proofs.Unique.{tally-unique, weigh-unique}
 use Rattle.writer.specs.Writing.{writeChart}
 use Rattle.writer.specs.declared.writing.Writing.{Writing}
 use Rattle.writer.proofs.Unique.{write-chart-unique}
 use Rattle.report.specs.Printing.{opening, printedOf, lineAfter}
-use Rattle.tally.specs.declared.tallying.Tallied.{Tallied}
-use Rattle.tally.specs.declared.weighing.Weighed.{Weighed}
-use Rattle.trace.specs.declared.tracing.Call.{Call}
 use Rattle.report.specs.declared.printing.Standing.{Standing}
 use Rattle.report.specs.declared.printing.Printed.{Printed}
-use Rattle.trace.proofs.Unique.{call-at-unique}
-use Rattle.tally.proofs.Unique.{tally-unique, weigh-unique}
 use Rattle.report.proofs.Unique.{opening-unique, print-next-unique}
 
 -- two answers that a statement allows are equal
@@ -121,18 +122,21 @@ pub record ActingUnique : Type 0 where
   pub put : (asked : Asked) (action : ℕ) (r : Request) → One (λ (q : Asked). q ≡ putting asked (action % 64) r)
   pub act : (asked : Asked) (stored latched : ℕ) → One (λ (r : Acted). r ≡ acted asked stored latched)
 
--- cycle/src: belongs, cycling, moving, run, time
-pub record CycleUnique : Type 0 where
+-- run/src: belongs, run
+pub record RunUnique : Type 0 where
   pub belongs : (run : Run) (steps actions cases : ℕ) → One (λ (r : Bool). r ≡ belongsTo steps actions cases run)
+  pub StepCounter-longer : (self : StepCounter) (e : ℕ) → One (λ (r : StepCounter). r ≡ longerCounter e self)
+  pub ActionTimer-longer : (self : ActionTimer) (e : ℕ) → One (λ (r : ActionTimer). r ≡ longerTimer e self)
+  pub no-run : One (λ (r : Run). r ≡ noRun)
+
+-- cycle/src: cycling, moving, time
+pub record CycleUnique : Type 0 where
   pub start : (chart : Chart) (clock : ℕ) (outputs : List ℤ)
       → Both (λ (r : Cycled) (exit : List ℤ). (r ≡ startOf chart clock (length outputs)) × (exit ≡ outputsAfter chart r outputs))
   pub cycle : (chart : Chart) (run : Run) (clock inputs : ℕ) (outputs : List ℤ)
       → Both (λ (r : Cycled) (exit : List ℤ). (r ≡ cycleOf chart run clock inputs (length outputs)) × (exit ≡ outputsAfter chart r outputs))
   pub cycle-on : (lent : Chart) (run : Run) (clock inputs : ℕ) (outputs : List ℤ) → One (λ (r : Cycled × List ℤ). r ≡ cycleOn lent run clock inputs outputs)
   pub initial-of : (n : ℕ) (initial : List ℕ) → One (λ (r : ℕ). r ≡ initialOf n initial)
-  pub StepCounter-longer : (self : StepCounter) (e : ℕ) → One (λ (r : StepCounter). r ≡ longerCounter e self)
-  pub ActionTimer-longer : (self : ActionTimer) (e : ℕ) → One (λ (r : ActionTimer). r ≡ longerTimer e self)
-  pub no-run : One (λ (r : Run). r ≡ noRun)
   pub elapsed : (last new : ℕ) → One (λ (r : ℕ). r ≡ elapsed last new)
 
 -- trace/src: tracing
@@ -160,6 +164,7 @@ pub record Unique : Type 0 where
   pub reader : ReaderUnique
   pub choice : ChoiceUnique
   pub acting : ActingUnique
+  pub run : RunUnique
   pub cycle : CycleUnique
   pub trace : TraceUnique
   pub tally : TallyUnique
@@ -210,15 +215,17 @@ unique = record {
   };
   choice = record { choose-one = choose-one-unique };
   acting = record { asks = asks-unique; put = put-unique; act = act-unique };
-  cycle = record {
+  run = record {
     belongs = λ run steps actions cases. belongs-unique steps actions cases run;
+    StepCounter-longer = λ self e. counter-longer-unique e self;
+    ActionTimer-longer = λ self e. timer-longer-unique e self;
+    no-run = no-run-unique;
+  };
+  cycle = record {
     start = λ chart clock outputs r q f g a b. start-unique chart clock r q outputs f g (a .0) (b .0) (a .1) (b .1);
     cycle = λ chart run clock inputs outputs r q f g a b. cycle-unique chart run clock inputs r q outputs f g (a .0) (b .0) (a .1) (b .1);
     cycle-on = cycle-on-unique;
     initial-of = initial-of-unique;
-    StepCounter-longer = λ self e. counter-longer-unique e self;
-    ActionTimer-longer = λ self e. timer-longer-unique e self;
-    no-run = no-run-unique;
     elapsed = elapsed-unique;
   };
   trace = record { call-at = call-at-unique };

@@ -15,9 +15,9 @@ use Rattle.sets.proofs.Counts.{summed-same}
 use Rattle.fields.specs.Fields.{unless}
 use Rattle.reader.specs.Held.{chartCode}
 use Rattle.reader.specs.declared.chart.Chart.{Chart}
+use Rattle.run.specs.declared.run.Run.{Run}
 use Rattle.cycle.specs.Cycling.{startOf}
 use Rattle.cycle.specs.Moving.{initialSet}
-use Rattle.cycle.specs.declared.run.Run.{Run}
 use Rattle.cycle.specs.declared.cycling.Cycled.{Cycled}
 use Rattle.tally.specs.Weighing.{weight, weightIn, balanced, unbalanced, unbalancedIn, weighCode, refused, weighOf}
 use Rattle.tally.specs.declared.weighing.Weighed.{Weighed}

@@ -1,39 +1,22 @@
 -- Two answers that one statement allows are equal, for each public function.
 use Prim.Native.Nat.{ℕ}
-use mathlib.Core.Bool.{Bool}
 use mathlib.Core.List.{List}
 use mathlib.Core.Path.{_≡_, sym, ap, _∙_}
 use lib.IntN.{ℤ}
 use lib.ListN.{length}
 use Rattle.sets.proofs.Unique.{one-answer}
 use Rattle.reader.specs.declared.chart.Chart.{Chart}
-use Rattle.cycle.specs.Run.{noRun, longerCounter, longerTimer}
+use Rattle.run.specs.declared.run.Run.{Run}
 use Rattle.cycle.specs.Time.{elapsed}
 use Rattle.cycle.specs.Moving.{initialOf}
-use Rattle.cycle.specs.Belongs.{belongsTo}
 use Rattle.cycle.specs.Cycling.{startOf, cycleOf, outputsAfter, cycleOn}
-use Rattle.cycle.specs.declared.run.StepCounter.{StepCounter}
-use Rattle.cycle.specs.declared.run.ActionTimer.{ActionTimer}
-use Rattle.cycle.specs.declared.run.Run.{Run}
 use Rattle.cycle.specs.declared.cycling.Cycled.{Cycled}
-
-pub no-run-unique : (r q : Run) → r ≡ noRun → q ≡ noRun → r ≡ q
-no-run-unique r q = one-answer
-
-pub counter-longer-unique : (e : ℕ) (c r q : StepCounter) → r ≡ longerCounter e c → q ≡ longerCounter e c → r ≡ q
-counter-longer-unique e c r q = one-answer
-
-pub timer-longer-unique : (e : ℕ) (t r q : ActionTimer) → r ≡ longerTimer e t → q ≡ longerTimer e t → r ≡ q
-timer-longer-unique e t r q = one-answer
 
 pub elapsed-unique : (last new r q : ℕ) → r ≡ elapsed last new → q ≡ elapsed last new → r ≡ q
 elapsed-unique last new r q = one-answer
 
 pub initial-of-unique : (n : ℕ) (initial : List ℕ) (r q : ℕ) → r ≡ initialOf n initial → q ≡ initialOf n initial → r ≡ q
 initial-of-unique n initial r q = one-answer
-
-pub belongs-unique : (steps actions cases : ℕ) (run : Run) (r q : Bool) → r ≡ belongsTo steps actions cases run → q ≡ belongsTo steps actions cases run → r ≡ q
-belongs-unique steps actions cases run r q = one-answer
 
 -- the answer, and the lent outputs with it
 both : (c : Chart) (x r q : Cycled) (out f g : List ℤ) → r ≡ x → q ≡ x → f ≡ outputsAfter c r out → g ≡ outputsAfter c q out → (r ≡ q) × (f ≡ g)

@@ -12,17 +12,17 @@ use Rattle.reader.specs.Held.{chartCode}
 use Rattle.reader.specs.declared.chart.Chart.{Chart}
 use Rattle.choice.specs.Choice.{chosen}
 use Rattle.choice.specs.declared.Choice.{Choice}
-use Rattle.cycle.specs.Run.{noRun}
+use Rattle.acting.specs.Acting.{asked, acted}
+use Rattle.acting.specs.declared.Steps.{Steps}
+use Rattle.acting.specs.declared.Acted.{Acted}
+use Rattle.run.specs.Run.{noRun}
+use Rattle.run.specs.Belongs.{belongs}
+use Rattle.run.specs.declared.run.Run.{Run}
 use Rattle.cycle.specs.Time.{elapsed, grownCounts, grownTimes}
 use Rattle.cycle.specs.Choosing.{stepsOf}
 use Rattle.cycle.specs.Moving.{settledCounters, settledTimers, signalsOf, marksOf, initialSet}
-use Rattle.acting.specs.Acting.{asked, acted}
 use Rattle.cycle.specs.Outputs.{outputsOf}
-use Rattle.cycle.specs.Belongs.{belongs}
 use Rattle.cycle.specs.declared.moving.Marks.{Marks}
-use Rattle.acting.specs.declared.Steps.{Steps}
-use Rattle.acting.specs.declared.Acted.{Acted}
-use Rattle.cycle.specs.declared.run.Run.{Run}
 use Rattle.cycle.specs.declared.cycling.Cycled.{Cycled}
 
 abbrev pub refused : ℕ → Run → Cycled

@@ -7,12 +7,12 @@ use lib.ListN.{getD}
 use lib.Dec.{eqb, ltb, leb}
 use Rattle.sets.specs.Loops.{table}
 use Rattle.sets.specs.Sets.{has, collect}
-use Rattle.acting.specs.Acting.{keptCount}
-use Rattle.cycle.specs.Run.{counter, timer}
-use Rattle.cycle.specs.declared.run.StepCounter.{StepCounter}
-use Rattle.cycle.specs.declared.run.ActionTimer.{ActionTimer}
-use Rattle.cycle.specs.declared.moving.Marks.{Marks}
 use Rattle.reader.specs.Held.{initialAt}
+use Rattle.acting.specs.Acting.{keptCount}
+use Rattle.run.specs.Run.{counter, timer}
+use Rattle.run.specs.declared.run.StepCounter.{StepCounter}
+use Rattle.run.specs.declared.run.ActionTimer.{ActionTimer}
+use Rattle.cycle.specs.declared.moving.Marks.{Marks}
 
 abbrev pub settledCounters : List ℕ → ℕ → List StepCounter
 settledCounters counts kept = table (λ k. counter (keptCount kept k (getD counts k 0))) 64

@@ -6,9 +6,9 @@ use mathlib.Core.Bool.{cond}
 use lib.ListN.{getD}
 use Rattle.sets.specs.Sets.{has}
 use Rattle.sets.specs.Loops.{table}
-use Rattle.cycle.specs.Run.{counter, timer, longerCounter, longerTimer}
-use Rattle.cycle.specs.declared.run.StepCounter.{StepCounter}
-use Rattle.cycle.specs.declared.run.ActionTimer.{ActionTimer}
+use Rattle.run.specs.Run.{counter, timer, longerCounter, longerTimer}
+use Rattle.run.specs.declared.run.StepCounter.{StepCounter}
+use Rattle.run.specs.declared.run.ActionTimer.{ActionTimer}
 
 abbrev pub elapsed : ℕ → ℕ → ℕ
 elapsed last new = (new + 2 ^ 32 - last) % 2 ^ 32

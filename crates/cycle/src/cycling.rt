@@ -5,24 +5,24 @@ ghost use mathlib.Core.List.{_++_};
 ghost use Prim.Native.Nat.{_≤_};
 ghost use lib.ListN.{length, drop};
 ghost use Rattle.reader.specs.Held.{chartCode};
-ghost use Rattle.cycle.specs.Belongs.{belongs};
 ghost use Rattle.acting.specs.Acting.{asked, acted};
+ghost use Rattle.run.specs.Belongs.{belongs};
 ghost use Rattle.cycle.specs.Outputs.{outputsOf};
 ghost use Rattle.cycle.specs.Cycling.{Settles, chartOf, cycleCode, startOf, movedOn, cycleOf, cycleOn, outputsAfter, refused};
 use crate::asking;
-use crate::belongs;
 use crate::choosing;
 use crate::codes::FEW_OUTPUTS;
-use crate::codes::OTHER_RUN;
 use crate::codes::TOO_LATE;
 use crate::moving;
 use crate::outputs;
-use crate::run::Run;
-use crate::run::no_run;
 use crate::time;
 use acting::Acted;
 use acting::Steps;
 use reader::Chart;
+use run::Run;
+use run::belongs;
+use run::codes::OTHER_RUN;
+use run::no_run;
 
 pub struct Cycled {
     pub code: u8,

@@ -3,9 +3,9 @@ ghost use mathlib.Core.Path.{_≡_};
 ghost use Prim.Native.Nat.{ℕ, _≤_, _<_, _^_};
 ghost use lib.ListN.{getD};
 ghost use Rattle.cycle.specs.Moving.{settledCounters, settledTimers, asExpected, marksOf, initialSet, initialOf, signalsOf};
-use crate::run::ActionTimer;
-use crate::run::StepCounter;
 use reader::numbers;
+use run::run::ActionTimer;
+use run::run::StepCounter;
 
 pub struct Marks {
     pub good: u64,

@@ -2,8 +2,8 @@
 ghost use mathlib.Core.Path.{_≡_};
 ghost use Prim.Native.Nat.{_<_, _^_};
 ghost use Rattle.cycle.specs.Time.{elapsed, grownCounts, grownTimes};
-use crate::run::ActionTimer;
-use crate::run::StepCounter;
+use run::run::ActionTimer;
+use run::run::StepCounter;
 
 pub fn elapsed(last: u32, new: u32) -> u32
     ensures { λ r. ⌜ r ≡ elapsed last new ⌝ }

@@ -13,11 +13,11 @@ use borrow.Author.Tests.{eqb-false, ltb-false, eq-eqb, ne-eqb}
 use Rattle.reader.specs.Reading.{readChart}
 use Rattle.reader.specs.declared.chart.Chart.{Chart}
 use Rattle.reader.specs.declared.reading.Reading.{Reading}
+use Rattle.run.specs.declared.run.Run.{Run}
+use Rattle.cycle.specs.Cycling.{startOf, outputsAfter, cycleOn}
+use Rattle.cycle.specs.declared.cycling.Cycled.{Cycled}
 use Rattle.writer.specs.Writing.{writeChart}
 use Rattle.writer.specs.declared.writing.Writing.{Writing}
-use Rattle.cycle.specs.Cycling.{startOf, outputsAfter, cycleOn}
-use Rattle.cycle.specs.declared.run.Run.{Run}
-use Rattle.cycle.specs.declared.cycling.Cycled.{Cycled}
 use Rattle.engine.specs.Image.{withRun, withOutputs, runFrom, outputsFrom}
 use Rattle.engine.specs.Runs.{accepts, altered, turn, turned, written, imaged, ran, began, unfit, ifRead}
 use Rattle.engine.specs.declared.runs.Ran.{Ran}

@@ -7,10 +7,10 @@ use mir.Syntax.{w32}
 use mir.Val.{ofZ, toZ}
 use Rattle.sets.specs.Loops.{table, turns}
 use Rattle.reader.specs.Numbers.{leFrom}
-use Rattle.cycle.specs.Run.{counter, timer}
-use Rattle.cycle.specs.declared.run.StepCounter.{StepCounter}
-use Rattle.cycle.specs.declared.run.ActionTimer.{ActionTimer}
-use Rattle.cycle.specs.declared.run.Run.{Run}
+use Rattle.run.specs.Run.{counter, timer}
+use Rattle.run.specs.declared.run.StepCounter.{StepCounter}
+use Rattle.run.specs.declared.run.ActionTimer.{ActionTimer}
+use Rattle.run.specs.declared.run.Run.{Run}
 
 abbrev pub with4 : List ℕ → ℕ → ℕ → List ℕ
 with4 s at x = set (set (set (set s at (x % 256)) (at + 1) (x / 256 % 256)) (at + 2) (x / 65536 % 256)) (at + 3) (x / 16777216 % 256)

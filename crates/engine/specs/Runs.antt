@@ -9,9 +9,9 @@ use Rattle.sets.specs.Loops.{summed, turns}
 use Rattle.reader.specs.Held.{chartCode}
 use Rattle.reader.specs.Reading.{readChart}
 use Rattle.reader.specs.declared.chart.Chart.{Chart}
-use Rattle.writer.specs.Writing.{writeChart}
+use Rattle.run.specs.declared.run.Run.{Run}
 use Rattle.cycle.specs.Cycling.{startOf, outputsAfter, cycleOn}
-use Rattle.cycle.specs.declared.run.Run.{Run}
+use Rattle.writer.specs.Writing.{writeChart}
 use Rattle.engine.specs.Image.{withRun, withOutputs, runFrom, outputsFrom}
 use Rattle.engine.specs.declared.runs.Ran.{Ran}
 

@@ -4,10 +4,10 @@ ghost use mathlib.Core.Path.{_≡_};
 ghost use Prim.Native.Nat.{_+_, _%_, _≤_};
 ghost use lib.ListN.{length};
 ghost use Rattle.engine.specs.Image.{with4, with8, withWords, withCounters, withTimers, withOutputs, withRun, countersFrom, timersFrom, outputsFrom, runFrom};
-use cycle::Run;
-use cycle::run::ActionTimer;
-use cycle::run::StepCounter;
 use reader::numbers;
+use run::Run;
+use run::run::ActionTimer;
+use run::run::StepCounter;
 
 pub(crate) const IMAGE: usize = 564;
 

@@ -4,8 +4,8 @@ ghost use Prim.Native.Nat.{_%_, _≤_, _<_};
 ghost use lib.ListN.{length};
 ghost use Rattle.engine.specs.Runs.{accepts, turned, began, ran, testsOf, writesOf};
 use crate::image;
-use cycle::Run;
 use reader::Chart;
+use run::Run;
 
 // How many cycles were accepted, and the run after the last.
 pub struct Ran {

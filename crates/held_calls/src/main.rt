@@ -4,11 +4,11 @@ ghost use Prim.Native.Nat.{_≤_};
 ghost use mathlib.Core.Path.{_≡_};
 ghost use lib.ListN.{length};
 use cycle::Cycled;
-use cycle::Run;
-use cycle::run::ActionTimer;
-use cycle::run::StepCounter;
 use reader::Chart;
 use reader::numbers;
+use run::Run;
+use run::run::ActionTimer;
+use run::run::StepCounter;
 
 // The most cases, so that the program ends on any input.
 const MOST: usize = 65536;

@@ -5,8 +5,8 @@ use mathlib.Core.Path.{_≡_, ap}
 use lib.IntN.{ℤ}
 use lib.ListN.{length}
 use Rattle.reader.specs.declared.chart.Chart.{Chart}
+use Rattle.run.specs.declared.run.Run.{Run}
 use Rattle.cycle.specs.Cycling.{cycleOf, outputsAfter}
-use Rattle.cycle.specs.declared.run.Run.{Run}
 use Rattle.cycle.specs.declared.cycling.Cycled.{Cycled}
 use Rattle.cycle.proofs.Unique.{cycle-unique}
 use Rattle.lent.specs.Advancing.{asCycled}

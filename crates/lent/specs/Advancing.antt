@@ -1,5 +1,5 @@
 -- What the lent entry answers, beside the cycle by value.
-use Rattle.cycle.specs.declared.run.Run.{Run}
+use Rattle.run.specs.declared.run.Run.{Run}
 use Rattle.cycle.specs.declared.cycling.Cycled.{Cycled}
 use Rattle.lent.specs.declared.advancing.Advanced.{Advanced}
 

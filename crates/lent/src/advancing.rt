@@ -4,8 +4,8 @@ ghost use lib.ListN.{length};
 ghost use Rattle.cycle.specs.Cycling.{cycleOf, outputsAfter};
 ghost use Rattle.lent.specs.Advancing.{asCycled};
 use cycle::Cycled;
-use cycle::Run;
 use reader::Chart;
+use run::Run;
 
 pub struct Advanced {
     pub code: u8,

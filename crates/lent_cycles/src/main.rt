@@ -3,8 +3,8 @@
 // activity clock`. A refused call shows the run as it was before it.
 ghost use Prim.Native.Nat.{_≤_};
 use cycle::Cycled;
-use cycle::Run;
 use reader::Chart;
+use run::Run;
 
 fn wide(x: u8) -> usize
     ensures { λ r. ⌜ r ≤ 255 ⌝ }

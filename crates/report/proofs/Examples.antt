@@ -11,10 +11,10 @@ use Rattle.reader.specs.Held.{stepsCode, actionsCode, transitionsCode, blocksCo
 use Rattle.reader.specs.Reading.{readFrom}
 use Rattle.reader.proofs.reading.Examples.{chartA}
 use Rattle.choice.specs.Choice.{chosen}
-use Rattle.cycle.specs.Moving.{marksOf, initialSet}
 use Rattle.acting.specs.Acting.{asked, acted}
-use Rattle.report.specs.Lines.{text, hex, decimalFrom, decimal, acceptedLine, refusedLine, chartLine, traceLine, tallyLine}
+use Rattle.cycle.specs.Moving.{marksOf, initialSet}
 use Rattle.trace.specs.Tracing.{callAt}
+use Rattle.report.specs.Lines.{text, hex, decimalFrom, decimal, acceptedLine, refusedLine, chartLine, traceLine, tallyLine}
 use Rattle.report.specs.Printing.{printedFrom, printedRun}
 
 -- "0 to 9, then a to f"; no zero in front of a decimal number

@@ -5,19 +5,19 @@ use mathlib.Core.List.{List, [], _++_}
 use mathlib.Core.Path.{_≡_}
 use lib.ListN.{length}
 use lib.Dec.{eqb, leb}
+use Rattle.sets.specs.Bytes.{over}
 use Rattle.reader.specs.Reading.{readChart}
 use Rattle.reader.specs.declared.chart.Chart.{Chart}
-use Rattle.cycle.specs.Run.{noRun}
+use Rattle.run.specs.Run.{noRun}
+use Rattle.run.specs.declared.run.Run.{Run}
 use Rattle.cycle.specs.Cycling.{startOf, cycleOf}
-use Rattle.cycle.specs.declared.run.Run.{Run}
 use Rattle.cycle.specs.declared.cycling.Cycled.{Cycled}
-use Rattle.sets.specs.Bytes.{over}
-use Rattle.report.specs.Lines.{acceptedLine, refusedLine, chartLine, traceLine, tallyLine}
-use Rattle.tally.specs.Tallying.{tallyOf}
 use Rattle.trace.specs.Tracing.{callAt}
-use Rattle.tally.specs.declared.tallying.Tallied.{Tallied}
 use Rattle.trace.specs.declared.tracing.Call.{Call}
 use Rattle.trace.specs.declared.tracing.Call.the-variants.{Start, Cycle, End, Refused}
+use Rattle.tally.specs.Tallying.{tallyOf}
+use Rattle.tally.specs.declared.tallying.Tallied.{Tallied}
+use Rattle.report.specs.Lines.{acceptedLine, refusedLine, chartLine, traceLine, tallyLine}
 use Rattle.report.specs.declared.printing.Standing.{Standing}
 use Rattle.report.specs.declared.printing.Printed.{Printed}
 

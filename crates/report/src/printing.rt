@@ -7,9 +7,9 @@ ghost use Rattle.trace.specs.Tracing.{callAt};
 ghost use Rattle.report.specs.Printing.{callLine, closingLine, numberAt, opening, unmoved, stepped, Prints, lineFor, standingFor, printedOf, lineAfter};
 use crate::lines;
 use crate::lines::LINE;
-use cycle::Run;
-use cycle::no_run;
 use reader::Chart;
+use run::Run;
+use run::no_run;
 use tally::Tallied;
 use trace::Call;
 

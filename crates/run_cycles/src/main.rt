@@ -2,10 +2,10 @@
 // cycles in two, and for each cycle its clock and its inputs in four (the least byte first); for each call one line with all it answers.
 ghost use Prim.Native.Nat.{_≤_};
 use cycle::Cycled;
-use cycle::Run;
-use cycle::run::ActionTimer;
-use cycle::run::StepCounter;
 use reader::Chart;
+use run::Run;
+use run::run::ActionTimer;
+use run::run::StepCounter;
 
 const MOST: usize = 65536;
 

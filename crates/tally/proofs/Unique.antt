@@ -4,7 +4,7 @@ use mathlib.Core.List.{List}
 use mathlib.Core.Path.{_≡_}
 use Rattle.sets.proofs.Unique.{one-answer}
 use Rattle.reader.specs.declared.chart.Chart.{Chart}
-use Rattle.cycle.specs.declared.run.Run.{Run}
+use Rattle.run.specs.declared.run.Run.{Run}
 use Rattle.tally.specs.Tallying.{tallyOf}
 use Rattle.tally.specs.Weighing.{weighOf}
 use Rattle.tally.specs.declared.tallying.Tallied.{Tallied}

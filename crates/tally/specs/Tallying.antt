@@ -7,8 +7,8 @@ use Rattle.sets.specs.Sets.{has}
 use Rattle.fields.specs.Fields.{unless}
 use Rattle.reader.specs.Held.{chartCode}
 use Rattle.reader.specs.declared.chart.Chart.{Chart}
-use Rattle.cycle.specs.Belongs.{belongs}
-use Rattle.cycle.specs.declared.run.Run.{Run}
+use Rattle.run.specs.Belongs.{belongs}
+use Rattle.run.specs.declared.run.Run.{Run}
 use Rattle.tally.specs.declared.tallying.Tallied.{Tallied}
 
 -- case k of a run with these marks

@@ -1,9 +1,9 @@
 // The cases of a run, counted from its marks.
 ghost use mathlib.Core.Path.{_≡_};
 ghost use Rattle.tally.specs.Tallying.{refused, tallyOf};
-use cycle::Run;
-use cycle::codes::OTHER_RUN;
 use reader::Chart;
+use run::Run;
+use run::codes::OTHER_RUN;
 
 pub struct Tallied {
     pub code: u8,
@@ -30,7 +30,7 @@ pub fn tally(chart: Chart, run: Run) -> Tallied
     if code != 0 {
         return refused(code);
     }
-    if !cycle::belongs::belongs(run, chart.steps, chart.actions, chart.cases) {
+    if !run::belongs::belongs(run, chart.steps, chart.actions, chart.cases) {
         return refused(OTHER_RUN);
     }
     let ran = sets::size(sets::joined(run.good, run.bad));

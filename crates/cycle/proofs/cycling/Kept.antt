@@ -18,19 +18,19 @@ use Rattle.reader.specs.declared.chart.Chart.{Chart}
 use Rattle.reader.proofs.held.Sound.{Sound, sound}
 use Rattle.choice.specs.Choice.{ready, ripe, takes, choosingAt, noneTaken, chosen}
 use Rattle.choice.specs.declared.Choice.{Choice}
-use Rattle.cycle.specs.Run.{longest, longer, counter, timer, noRun}
-use Rattle.cycle.specs.Time.{elapsed, grownCount, grownTime, grownCounts, grownTimes}
-use Rattle.cycle.specs.Choosing.{movedTo, stepsOf}
-use Rattle.cycle.specs.Moving.{settledCounters, settledTimers, marksOf, initialSet, signalsOf}
 use Rattle.acting.specs.Acting.{keptCount, sets, latches, wants, requestOf, asked, storedAfter, latchedAfter, acted}
-use Rattle.cycle.specs.Belongs.{countFits, countersFit, timersFit, belongs}
-use Rattle.cycle.specs.Cycling.{refused, startCode, cycleCode, actedOn, startSteps, started, startOf, choiceOf, cycled, cycleOf}
 use Rattle.acting.specs.declared.Steps.{Steps}
 use Rattle.acting.specs.declared.Asked.{Asked}
 use Rattle.acting.specs.declared.Acted.{Acted}
-use Rattle.cycle.specs.declared.run.Run.{Run}
+use Rattle.run.specs.Run.{longest, longer, counter, timer, noRun}
+use Rattle.run.specs.Belongs.{countFits, countersFit, timersFit, belongs}
+use Rattle.run.specs.declared.run.Run.{Run}
+use Rattle.run.proofs.belongs.Laws.{Own, own, is-own}
+use Rattle.cycle.specs.Time.{elapsed, grownCount, grownTime, grownCounts, grownTimes}
+use Rattle.cycle.specs.Choosing.{movedTo, stepsOf}
+use Rattle.cycle.specs.Moving.{settledCounters, settledTimers, marksOf, initialSet, signalsOf}
+use Rattle.cycle.specs.Cycling.{refused, startCode, cycleCode, actedOn, startSteps, started, startOf, choiceOf, cycled, cycleOf}
 use Rattle.cycle.specs.declared.cycling.Cycled.{Cycled}
-use Rattle.cycle.proofs.belongs.Laws.{Own, own, is-own}
 use Rattle.cycle.proofs.cycling.Laws.{passed}
 
 -- ---- counts

@@ -17,17 +17,17 @@ use Rattle.reader.specs.Held.{chartCode}
 use Rattle.reader.specs.declared.chart.Chart.{Chart}
 use Rattle.reader.proofs.held.Sound.{Sound, fits}
 use Rattle.choice.specs.declared.Choice.{Choice}
+use Rattle.acting.specs.declared.Steps.{Steps}
+use Rattle.acting.specs.declared.Acted.{Acted}
+use Rattle.run.specs.Belongs.{belongs}
+use Rattle.run.specs.declared.run.StepCounter.{StepCounter}
+use Rattle.run.specs.declared.run.ActionTimer.{ActionTimer}
+use Rattle.run.specs.declared.run.Run.{Run}
 use Rattle.cycle.specs.Time.{elapsed, grownCounts, grownTimes}
 use Rattle.cycle.specs.Moving.{initialSet, settledCounters, settledTimers, signalsOf}
 use Rattle.cycle.specs.Choosing.{stepsOf}
-use Rattle.cycle.specs.Belongs.{belongs}
 use Rattle.cycle.specs.Cycling.{Settles, refused, cycleCode, actedOn, started, choiceOf, marksAt, cycled, outputsAfter, answered, movedOn, cycleOn}
 use Rattle.cycle.specs.declared.moving.Marks.{Marks}
-use Rattle.acting.specs.declared.Steps.{Steps}
-use Rattle.acting.specs.declared.Acted.{Acted}
-use Rattle.cycle.specs.declared.run.StepCounter.{StepCounter}
-use Rattle.cycle.specs.declared.run.ActionTimer.{ActionTimer}
-use Rattle.cycle.specs.declared.run.Run.{Run}
 use Rattle.cycle.specs.declared.cycling.Cycled.{Cycled}
 
 -- ---- the lent outputs

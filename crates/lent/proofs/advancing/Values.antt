@@ -4,9 +4,9 @@ use mir.Val.{Val}
 use Rattle.reader.specs.declared.chart.Chart.{Chart}
 use Rattle.reader.proofs.chart.Chart as G
 use Rattle.reader.proofs.chart.Chart.Laws as G′
-use Rattle.cycle.specs.declared.run.Run.{Run}
-use Rattle.cycle.proofs.run.Run as T
-use Rattle.cycle.proofs.run.Run.Laws as T′
+use Rattle.run.specs.declared.run.Run.{Run}
+use Rattle.run.proofs.run.Run as T
+use Rattle.run.proofs.run.Run.Laws as T′
 
 abbrev pub chartVal : Chart → Val
 chartVal = LL.val G.the-type G′.the-laws

@@ -13,16 +13,16 @@ use borrow.Author.Tests.{leb-true, leb-false, le-leb, lt-leb}
 use Rattle.reader.specs.Numbers.{le}
 use Rattle.reader.specs.Reading.{readChart}
 use Rattle.reader.specs.declared.chart.Chart.{Chart}
-use Rattle.cycle.specs.Run.{noRun}
+use Rattle.run.specs.Run.{noRun}
+use Rattle.run.specs.declared.run.Run.{Run}
 use Rattle.cycle.specs.Cycling.{startOf, cycleOf}
-use Rattle.cycle.specs.declared.run.Run.{Run}
-use Rattle.report.specs.Lines.{chartLine}
 use Rattle.trace.specs.Tracing.{bodyDue, recordFits, callAt}
-use Rattle.report.specs.Printing.{lineOf, printedAt, printedFrom, printedRun}
 use Rattle.trace.specs.declared.tracing.Call.{Call}
 use Rattle.trace.specs.declared.tracing.Call.the-variants.{Start, Cycle, End, Refused}
-use Rattle.report.proofs.printing.Laws.{one-printed}
 use Rattle.trace.proofs.tracing.Laws.{due, after-start, after-cycle}
+use Rattle.report.specs.Lines.{chartLine}
+use Rattle.report.specs.Printing.{lineOf, printedAt, printedFrom, printedRun}
+use Rattle.report.proofs.printing.Laws.{one-printed}
 
 -- a number that lies in the front is read from there
 le-take : (w m at : ℕ) (s : List ℕ) → at + w ≤ m → le w (take m s) at ≡ le w s at

@@ -8,21 +8,21 @@ use native.Mathlib.Omega.{arith}
 use lib.ListN.{length}
 use lib.Dec.{eqb}
 use borrow.Author.Tests.{le-leb, lt-leb, ne-eqb}
-use Rattle.reader.specs.declared.chart.Chart.{Chart}
-use Rattle.cycle.specs.Cycling.{startOf, cycleOf}
-use Rattle.cycle.specs.declared.run.Run.{Run}
-use Rattle.cycle.specs.declared.cycling.Cycled.{Cycled}
 use Rattle.sets.specs.Bytes.{Put}
-use Rattle.report.specs.Lines.{chartLine, traceLine}
-use Rattle.tally.specs.Tallying.{tallyOf}
+use Rattle.reader.specs.declared.chart.Chart.{Chart}
+use Rattle.run.specs.declared.run.Run.{Run}
+use Rattle.cycle.specs.Cycling.{startOf, cycleOf}
+use Rattle.cycle.specs.declared.cycling.Cycled.{Cycled}
 use Rattle.trace.specs.Tracing.{callAt}
-use Rattle.report.specs.Printing.{lineOf, closingLine, printedAt, printedFrom, numberAt, stepped, unmoved, lineFor, standingFor, Prints, nextLine, nextStanding, printedOf, lineAfter}
-use Rattle.tally.specs.declared.tallying.Tallied.{Tallied}
 use Rattle.trace.specs.declared.tracing.Call.{Call}
 use Rattle.trace.specs.declared.tracing.Call.the-variants.{Start, Cycle, End, Refused}
+use Rattle.trace.proofs.tracing.Laws.{start-there, cycle-there}
+use Rattle.tally.specs.Tallying.{tallyOf}
+use Rattle.tally.specs.declared.tallying.Tallied.{Tallied}
+use Rattle.report.specs.Lines.{chartLine, traceLine}
+use Rattle.report.specs.Printing.{lineOf, closingLine, printedAt, printedFrom, numberAt, stepped, unmoved, lineFor, standingFor, Prints, nextLine, nextStanding, printedOf, lineAfter}
 use Rattle.report.specs.declared.printing.Standing.{Standing}
 use Rattle.report.specs.declared.printing.Printed.{Printed}
-use Rattle.trace.proofs.tracing.Laws.{start-there, cycle-there}
 
 -- what is printed from a place on begins with what stands there
 pub one-printed : (more : ℕ) (c : Chart) (s : List ℕ) (n at : ℕ) (run : Run) (x : Call) → callAt s at ≡ x → printedFrom (suc more) c s n at run ≡ printedAt c n at run x (printedFrom more c s (n + 1))

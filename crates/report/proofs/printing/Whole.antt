@@ -11,22 +11,22 @@ use Rattle.reader.specs.Held.{chartCode}
 use Rattle.reader.specs.Reading.{readChart}
 use Rattle.reader.specs.declared.chart.Chart.{Chart}
 use Rattle.reader.proofs.reading.Accepted.{read-accepted}
-use Rattle.cycle.specs.Run.{noRun}
-use Rattle.cycle.specs.Belongs.{belongs}
+use Rattle.run.specs.Run.{noRun}
+use Rattle.run.specs.Belongs.{belongs}
+use Rattle.run.specs.declared.run.Run.{Run}
+use Rattle.run.proofs.belongs.Laws.{none-own}
 use Rattle.cycle.specs.Cycling.{startOf, cycleOf}
-use Rattle.cycle.specs.declared.run.Run.{Run}
 use Rattle.cycle.specs.declared.cycling.Cycled.{Cycled}
-use Rattle.cycle.proofs.belongs.Laws.{none-own}
 use Rattle.cycle.proofs.cycling.Kept.{start-belongs, cycle-keeps}
-use Rattle.report.specs.Lines.{chartLine, traceLine, tallyLine}
-use Rattle.tally.specs.Tallying.{tallyOf}
 use Rattle.trace.specs.Tracing.{callAt}
-use Rattle.report.specs.Printing.{lineOf, closingLine, printedAt, printedFrom, printedRun, numberAt, opening, lineFor, standingFor, nextLine, nextStanding, standingAfter, linesOf}
 use Rattle.trace.specs.declared.tracing.Call.{Call}
 use Rattle.trace.specs.declared.tracing.Call.the-variants.{Start, Cycle, End, Refused}
+use Rattle.trace.proofs.tracing.Laws.{after-start, after-cycle}
+use Rattle.tally.specs.Tallying.{tallyOf}
+use Rattle.report.specs.Lines.{chartLine, traceLine, tallyLine}
+use Rattle.report.specs.Printing.{lineOf, closingLine, printedAt, printedFrom, printedRun, numberAt, opening, lineFor, standingFor, nextLine, nextStanding, standingAfter, linesOf}
 use Rattle.report.specs.declared.printing.Standing.{Standing}
 use Rattle.report.proofs.printing.Laws.{one-printed}
-use Rattle.trace.proofs.tracing.Laws.{after-start, after-cycle}
 
 abbrev standing : Bool → ℕ → Run → Standing
 standing done at run = record { done = done; at = at; run = run }

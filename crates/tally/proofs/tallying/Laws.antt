@@ -10,8 +10,8 @@ use Rattle.sets.proofs.Counts.{size-below, counted-same, counted-not}
 use borrow.Author.Tests.{ne-eqb}
 use Rattle.reader.specs.Held.{chartCode}
 use Rattle.reader.specs.declared.chart.Chart.{Chart}
-use Rattle.cycle.specs.Belongs.{belongs}
-use Rattle.cycle.specs.declared.run.Run.{Run}
+use Rattle.run.specs.Belongs.{belongs}
+use Rattle.run.specs.declared.run.Run.{Run}
 use Rattle.tally.specs.Tallying.{isPassed, isFailed, isNotRun, countsOf, refused, tallyOf}
 use Rattle.tally.specs.declared.tallying.Tallied.{Tallied}
 

@@ -4,8 +4,8 @@ use denote.Ref.{now}
 use borrow.Author.Needs.{needs}
 use Rattle.reader.specs.declared.chart.Chart.{Chart}
 use Rattle.reader.proofs.held.Sound.{Sound, sound}
+use Rattle.run.proofs.belongs.Laws.{Own, own, actions-fit}
 use Rattle.cycle.specs.Cycling.{chartOf, cycled}
-use Rattle.cycle.proofs.belongs.Laws.{Own, own, actions-fit}
 use Rattle.cycle.proofs.cycling.Kept.{actions-below}
 use Rattle.cycle.proofs.cycling.Laws.{cycled-as, settles, together}
 use Rattle.cycle.proofs.cycling.moved_on.Statement.{statement}

@@ -3,14 +3,14 @@ use mathlib.Core.Path.{_≡_, sym, _∙_}
 use native.Mathlib.Omega.{arith}
 use lib.ListN.{length}
 use denote.Ref.{now}
+use Rattle.sets.proofs.Below.{below-zero}
 use Rattle.reader.specs.Held.{chartCode}
 use Rattle.reader.proofs.held.Sound.{Sound, sound}
-use Rattle.cycle.specs.Run.{noRun}
+use Rattle.run.specs.Run.{noRun}
+use Rattle.run.proofs.belongs.Laws.{actions-fit}
 use Rattle.cycle.specs.Cycling.{refused, startCode, started}
 use Rattle.cycle.proofs.cycling.Laws.{few, enough, refused-by, accepted-by, untouched, started-as, settles}
 use Rattle.cycle.proofs.cycling.Kept.{actions-below}
-use Rattle.cycle.proofs.belongs.Laws.{actions-fit}
-use Rattle.sets.proofs.Below.{below-zero}
 use borrow.Author.Needs.{needs}
 use Rattle.cycle.proofs.cycling.start.Statement.{statement}
 use Rattle.cycle.proofs.cycling.start.Tie as tie

@@ -3,8 +3,8 @@ use native.Mathlib.Omega.{arith}
 use lib.ListN.{getD}
 use borrow.Author.Needs.{needs}
 use Rattle.sets.proofs.Visits.{Filled, filled-start, filled-turn, filled-end, visit-lt, visit-less}
-use Rattle.cycle.specs.Run.{timer}
 use Rattle.acting.specs.Acting.{keptCount}
+use Rattle.run.specs.Run.{timer}
 use Rattle.cycle.proofs.moving.settled_timers.Statement.{statement}
 use Rattle.cycle.proofs.moving.settled_timers.Tie as tie
 

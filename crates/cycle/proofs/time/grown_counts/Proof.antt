@@ -3,7 +3,7 @@ use native.Mathlib.Omega.{arith}
 use lib.ListN.{getD}
 use borrow.Author.Needs.{needs}
 use Rattle.sets.proofs.Visits.{Filled, filled-start, filled-turn, filled-end, visit-lt, visit-less}
-use Rattle.cycle.specs.Run.{counter}
+use Rattle.run.specs.Run.{counter}
 use Rattle.cycle.specs.Time.{grownCount}
 use Rattle.cycle.proofs.time.grown_counts.Statement.{statement}
 use Rattle.cycle.proofs.time.grown_counts.Tie as tie

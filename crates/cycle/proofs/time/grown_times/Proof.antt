@@ -3,7 +3,7 @@ use native.Mathlib.Omega.{arith}
 use lib.ListN.{getD}
 use borrow.Author.Needs.{needs}
 use Rattle.sets.proofs.Visits.{Filled, filled-start, filled-turn, filled-end, visit-lt, visit-less}
-use Rattle.cycle.specs.Run.{timer}
+use Rattle.run.specs.Run.{timer}
 use Rattle.cycle.specs.Time.{grownTime}
 use Rattle.cycle.proofs.time.grown_times.Statement.{statement}
 use Rattle.cycle.proofs.time.grown_times.Tie as tie

@@ -3,9 +3,9 @@ use Prim.Native.Nat.{_+_, _*_, _≤_, _-_}
 use mathlib.Core.Path.{refl, ap}
 use native.Mathlib.Omega.{arith}
 use borrow.Author.Needs.{needs}
-use Rattle.cycle.specs.Run.{timer}
 use Rattle.sets.proofs.Loops.{Written, written-start, written-turn, written-end}
 use Rattle.reader.specs.Numbers.{leFrom}
+use Rattle.run.specs.Run.{timer}
 use Rattle.engine.specs.Image.{timersFrom}
 use Rattle.engine.proofs.image.timers_from.Statement.{statement}
 use Rattle.engine.proofs.image.timers_from.Tie as tie

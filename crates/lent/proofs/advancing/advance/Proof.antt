@@ -42,22 +42,22 @@ use denote.Triple.Spec.{Meets, tripleOf}
 use denote.Triple.Table.{entered, cited}
 use denote.Triple.Walked.{says, Stays, stay-ref, stay-none, gave-slice, walkOf, goes-none, goes-ref, goes-gave-slice, Walks, ends-at, walked, walk-meets}
 use denote.Exit.{yes}
-use Rattle.cycle.specs.Cycling.{cycleOf, outputsAfter}
 use Rattle.reader.specs.declared.chart.Chart.{Chart}
-use Rattle.cycle.specs.declared.run.Run.{Run}
-use Rattle.cycle.specs.declared.cycling.Cycled.{Cycled}
 use Rattle.reader.proofs.chart.Chart as G
 use Rattle.reader.proofs.chart.Chart.Laws as G′
-use Rattle.cycle.proofs.run.Run as T
-use Rattle.cycle.proofs.run.Run.Laws as T′
+use Rattle.run.specs.declared.run.Run.{Run}
+use Rattle.run.proofs.run.Run as T
+use Rattle.run.proofs.run.Run.Laws as T′
+use Rattle.cycle.specs.Cycling.{cycleOf, outputsAfter}
+use Rattle.cycle.specs.declared.cycling.Cycled.{Cycled}
 use Rattle.cycle.proofs.cycling.Cycled as K
 use Rattle.cycle.proofs.cycling.Cycled.Laws as K′
-use Rattle.lent.proofs.advancing.Advanced as D
-use Rattle.lent.proofs.advancing.Advanced.Laws as D′
 use Rattle.cycle.proofs.cycling.cycle as cycle
 use Rattle.cycle.proofs.cycling.cycle.Symbol as cycle-def
 use Rattle.cycle.proofs.cycling.cycle.Symbol.{name as #cycle·cycling·cycle}
 use Rattle.cycle.proofs.cycling.cycle.Met as cycle-thm
+use Rattle.lent.proofs.advancing.Advanced as D
+use Rattle.lent.proofs.advancing.Advanced.Laws as D′
 use Rattle.lent.specs.declared.advancing.Advanced.{Advanced}
 use Rattle.lent.proofs.advancing.Values.{chartVal, runVal}
 use Rattle.lent.proofs.advancing.advance.Key.{name as #lent·advancing·advance}

@@ -43,17 +43,17 @@ use denote.Triple.Spec.{Meets, tripleOf}
 use denote.Triple.Table.{entered, cited}
 use denote.Triple.Walked.{says, Stays, stay-none, gave-slice, walkOf, goes-none, goes-gave-slice, Walks, ends-at, walked, walk-meets}
 use denote.Exit.{yes}
-use Rattle.cycle.specs.Cycling.{cycleOf, outputsAfter}
-use Rattle.lent.specs.Advancing.{asCycled}
 use Rattle.reader.specs.declared.chart.Chart.{Chart}
-use Rattle.cycle.specs.declared.run.Run.{Run}
-use Rattle.lent.specs.declared.advancing.Advanced.{Advanced}
 use Rattle.reader.proofs.chart.Chart as G
 use Rattle.reader.proofs.chart.Chart.Laws as G′
-use Rattle.cycle.proofs.run.Run as T
-use Rattle.cycle.proofs.run.Run.Laws as T′
+use Rattle.run.specs.declared.run.Run.{Run}
+use Rattle.run.proofs.run.Run as T
+use Rattle.run.proofs.run.Run.Laws as T′
+use Rattle.cycle.specs.Cycling.{cycleOf, outputsAfter}
 use Rattle.cycle.proofs.cycling.Cycled as K
 use Rattle.cycle.proofs.cycling.Cycled.Laws as K′
+use Rattle.lent.specs.Advancing.{asCycled}
+use Rattle.lent.specs.declared.advancing.Advanced.{Advanced}
 use Rattle.lent.proofs.advancing.Advanced as D
 use Rattle.lent.proofs.advancing.Advanced.Laws as D′
 use Rattle.lent.proofs.advancing.advance as advance

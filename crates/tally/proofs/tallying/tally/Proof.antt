@@ -5,8 +5,8 @@ use borrow.Author.Needs.{needs}
 use borrow.Author.Tests.{not-true, not-false}
 use Rattle.reader.specs.Held.{chartCode}
 use Rattle.reader.proofs.held.Sound.{sound}
-use Rattle.cycle.specs.Belongs.{belongs}
-use Rattle.cycle.proofs.belongs.Laws.{Own, own}
+use Rattle.run.specs.Belongs.{belongs}
+use Rattle.run.proofs.belongs.Laws.{Own, own}
 use Rattle.tally.proofs.tallying.Laws.{passed-counted, failed-counted, ran-fits, notrun-counted, chart-refused, run-refused, accepted}
 use Rattle.tally.proofs.tallying.tally.Statement.{statement}
 use Rattle.tally.proofs.tallying.tally.Tie as tie

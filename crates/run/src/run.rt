@@ -1,6 +1,6 @@
 // A run as it is held. Step counters and action timers are two types: one is never handed over for the other.
 ghost use mathlib.Core.Path.{_≡_};
-ghost use Rattle.cycle.specs.Run.{noRun, longerCounter, longerTimer};
+ghost use Rattle.run.specs.Run.{noRun, longerCounter, longerTimer};
 
 pub struct StepCounter(pub u32);
 

@@ -1,7 +1,7 @@
 -- By its callees' statements.
 use borrow.Author.Needs.{needs}
-use Rattle.cycle.proofs.belongs.names_fit.Statement.{statement}
-use Rattle.cycle.proofs.belongs.names_fit.Tie as tie
+use Rattle.run.proofs.belongs.names_fit.Statement.{statement}
+use Rattle.run.proofs.belongs.names_fit.Tie as tie
 
 names-below-requires : tie.Need-names-below-requires
 names-below-requires c κs = search needs

@@ -9,11 +9,11 @@ use Rattle.sets.specs.Sets.{Below}
 use Rattle.sets.proofs.Loops.{and-true}
 use Rattle.sets.proofs.Below.{below-zero}
 use Rattle.sets.proofs.Members.{below-lt}
-use Rattle.cycle.specs.Run.{noRun}
-use Rattle.cycle.specs.Belongs.{countersFit, timersFit, belongs}
-use Rattle.cycle.specs.declared.run.Run.{Run}
 use Rattle.reader.specs.declared.chart.Chart.{Chart}
 use Rattle.reader.proofs.held.Sound.{Sound}
+use Rattle.run.specs.Run.{noRun}
+use Rattle.run.specs.Belongs.{countersFit, timersFit, belongs}
+use Rattle.run.specs.declared.run.Run.{Run}
 
 pub record Own (c : Chart) (r : Run) : Type 0 where
   pub active : Below (r .active) (c .steps) ≡ true

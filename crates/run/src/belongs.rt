@@ -1,6 +1,6 @@
 // The test of a held run against its chart: "A run belongs to a chart if .."
 ghost use mathlib.Core.Path.{_≡_};
-ghost use Rattle.cycle.specs.Belongs.{countFits, countersFit, timersFit, namesFit, belongsTo};
+ghost use Rattle.run.specs.Belongs.{countFits, countersFit, timersFit, namesFit, belongsTo};
 use crate::run::ActionTimer;
 use crate::run::LONGEST;
 use crate::run::Run;

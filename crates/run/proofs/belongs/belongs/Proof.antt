@@ -1,7 +1,7 @@
 -- By its callees' statements, the last call first.
 use borrow.Author.Needs.{needs}
-use Rattle.cycle.proofs.belongs.belongs.Statement.{statement}
-use Rattle.cycle.proofs.belongs.belongs.Tie as tie
+use Rattle.run.proofs.belongs.belongs.Statement.{statement}
+use Rattle.run.proofs.belongs.belongs.Tie as tie
 
 names-fit-requires : tie.Need-names-fit-requires
 names-fit-requires c κs = search needs

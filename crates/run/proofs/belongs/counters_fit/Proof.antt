@@ -6,25 +6,25 @@ use borrow.Author.Needs.{needs}
 use lib.ListN.{getD}
 use Rattle.sets.specs.Loops.{all}
 use Rattle.sets.proofs.Loops.{all-start, all-turn, all-done}
-use Rattle.cycle.specs.Run.{timer}
-use Rattle.cycle.specs.Belongs.{countFits}
-use Rattle.cycle.proofs.belongs.timers_fit.Statement.{statement}
-use Rattle.cycle.proofs.belongs.timers_fit.Tie as tie
+use Rattle.run.specs.Run.{counter}
+use Rattle.run.specs.Belongs.{countFits}
+use Rattle.run.proofs.belongs.counters_fit.Statement.{statement}
+use Rattle.run.proofs.belongs.counters_fit.Tie as tie
 
 abbrev Inv-loop : tie.InvT-loop
-Inv-loop latched held fit₀ k₀ fit k = (fit ≡ all (λ j. countFits latched j (getD held j (timer 0) .0)) k) × (k ≤ 32)
+Inv-loop active held fit₀ k₀ fit k = (fit ≡ all (λ j. countFits active j (getD held j (counter 0) .0)) k) × (k ≤ 64)
 
 abbrev μ-loop : tie.MeasureT-loop
-μ-loop latched held fit₀ k₀ fit k = 32 - k
+μ-loop active held fit₀ k₀ fit k = 64 - k
 
 loop-holds : tie.Need-loop-holds Inv-loop μ-loop
 loop-holds c = (all-start _, omega arith)
 
-mul-t : tie.Need-mul-t Inv-loop μ-loop
-mul-t c = omega arith
+mul-c : tie.Need-mul-c Inv-loop μ-loop
+mul-c c = omega arith
 
-array-copy-out-t : tie.Need-array-copy-out-t Inv-loop μ-loop
-array-copy-out-t c = omega arith
+array-copy-out-c : tie.Need-array-copy-out-c Inv-loop μ-loop
+array-copy-out-c c = omega arith
 
 count-fits-requires : tie.Need-count-fits-requires Inv-loop μ-loop
 count-fits-requires c κs = search needs
@@ -41,15 +41,15 @@ loop-again c = (all-turn _ _ (c .before .before .before .loop .inv .0) (c .count
 returns : tie.Need-returns Inv-loop μ-loop
 returns c = all-done _ (c .before .loop .k) (c .before .loop .inv .0) (omega arith) (omega arith)
 
-pub timers-fit-spec : {M : Type 1} → statement M
-timers-fit-spec =
+pub counters-fit-spec : {M : Type 1} → statement M
+counters-fit-spec =
     tie.close
     (tie.spec
     Inv-loop
     μ-loop
     loop-holds
-    mul-t
-    array-copy-out-t
+    mul-c
+    array-copy-out-c
     count-fits-requires
     add-k
     loop-less

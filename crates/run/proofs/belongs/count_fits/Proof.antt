@@ -1,7 +1,7 @@
 -- By membership.
 use borrow.Author.Needs.{needs}
-use Rattle.cycle.proofs.belongs.count_fits.Statement.{statement}
-use Rattle.cycle.proofs.belongs.count_fits.Tie as tie
+use Rattle.run.proofs.belongs.count_fits.Statement.{statement}
+use Rattle.run.proofs.belongs.count_fits.Tie as tie
 
 is-in-requires : tie.Need-is-in-requires
 is-in-requires c κs = search needs

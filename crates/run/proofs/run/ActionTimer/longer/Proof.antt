@@ -1,10 +1,10 @@
 -- The least of the sum and the longest.
 use mathlib.Core.Path.{ap}
 use native.Mathlib.Omega.{arith}
-use Rattle.cycle.specs.Run.{timer}
+use Rattle.run.specs.Run.{timer}
 use borrow.Author.Needs.{needs}
-use Rattle.cycle.proofs.run.ActionTimer.longer.Statement.{statement}
-use Rattle.cycle.proofs.run.ActionTimer.longer.Tie as tie
+use Rattle.run.proofs.run.ActionTimer.longer.Statement.{statement}
+use Rattle.run.proofs.run.ActionTimer.longer.Tie as tie
 
 returns : tie.Need-returns
 returns c = ap timer (omega arith)

@@ -7,11 +7,11 @@ use lib.ListN.{getD}
 use lib.Dec.{leb, eqb}
 use Rattle.sets.specs.Loops.{all}
 use Rattle.sets.specs.Sets.{has, Below}
-use Rattle.cycle.specs.Run.{longest, counter, timer}
-use Rattle.cycle.specs.declared.run.StepCounter.{StepCounter}
-use Rattle.cycle.specs.declared.run.ActionTimer.{ActionTimer}
-use Rattle.cycle.specs.declared.run.Run.{Run}
 use Rattle.reader.specs.declared.chart.Chart.{Chart}
+use Rattle.run.specs.Run.{longest, counter, timer}
+use Rattle.run.specs.declared.run.StepCounter.{StepCounter}
+use Rattle.run.specs.declared.run.ActionTimer.{ActionTimer}
+use Rattle.run.specs.declared.run.Run.{Run}
 
 abbrev pub countFits : ℕ → ℕ → ℕ → Bool
 countFits set k n = leb n longest && (has set k || eqb n 0)

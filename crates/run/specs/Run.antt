@@ -1,9 +1,9 @@
 -- The all-zero run, and the growth of a step counter and of an action timer.
 use Prim.Native.Nat.{ℕ, _+_, min}
 use lib.ListN.{replicate}
-use Rattle.cycle.specs.declared.run.StepCounter.{StepCounter}
-use Rattle.cycle.specs.declared.run.ActionTimer.{ActionTimer}
-use Rattle.cycle.specs.declared.run.Run.{Run}
+use Rattle.run.specs.declared.run.StepCounter.{StepCounter}
+use Rattle.run.specs.declared.run.ActionTimer.{ActionTimer}
+use Rattle.run.specs.declared.run.Run.{Run}
 
 abbrev pub counter : ℕ → StepCounter
 counter n = record { 0 = n }
