@@ -1,9 +1,9 @@
 // bench-run: prints the run of the chart in chart.bin over the trace on standard input (document 01, "The printed run").
 ghost use Prim.Native.Nat.{_≤_};
 ghost use lib.ListN.{length};
+use chart::Chart;
 use libc::STDIN_FILENO;
 use libc::STDOUT_FILENO;
-use reader::Chart;
 use report::lines::LINE;
 
 // How many of the chart file's first bytes are in the space now. A file that can't be opened counts as empty.

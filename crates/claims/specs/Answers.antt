@@ -13,15 +13,15 @@ use lib.Dec.{leb, eqb}
 use borrow.Author.Tests.{le-leb, lt-leb, eq-eqb, ne-eqb}
 use Rattle.sets.specs.Loops.{orElse}
 use Rattle.fields.specs.Fields.{unless}
+use Rattle.chart.specs.Chart.{noChart}
+use Rattle.chart.specs.Held.{chartCode}
+use Rattle.chart.specs.declared.chart.Chart.{Chart}
+use Rattle.chart.proofs.held.Each.{chart-each}
 use Rattle.reader.specs.Framing.{lengthAt, kindAt, bodyLength, kindFits, recordNumber, recordValues}
-use Rattle.reader.specs.Chart.{noChart}
-use Rattle.reader.specs.Held.{chartCode}
 use Rattle.reader.specs.Reading.{readChart}
-use Rattle.reader.specs.declared.chart.Chart.{Chart}
 use Rattle.reader.specs.declared.reading.Reading.{Reading}
 use Rattle.reader.proofs.framing.Laws.{is-record}
 use Rattle.reader.proofs.reading.Accepted.{read-accepted, read-refused}
-use Rattle.reader.proofs.held.Each.{chart-each}
 use Rattle.run.specs.Run.{noRun}
 use Rattle.run.specs.Belongs.{belongs}
 use Rattle.run.specs.declared.run.Run.{Run}
@@ -102,7 +102,7 @@ numbered = record {
 }
 
 -- ---- what decides, and what a refusal returns: one record per entry, its tests in their order and then the answer. Of the tests inside a
--- chart, and of the records of a file, `heldCode` and `readFrom` of the reader's specs are the order.
+-- chart, and of the records of a file, `heldCode` of the chart's specs and `readFrom` of the reader's are the order.
 
 -- the record step at a place has the number n and the values v
 pub record RecordAnswer (s : List ℕ) (at before n : ℕ) (v : List ℕ) : Type 0 where

@@ -12,12 +12,12 @@ use lib.ListN.{getD, replicate}
 use Rattle.sets.specs.Loops.{all, some, summed, firstCode, tableFrom, turns}
 use Rattle.sets.specs.Sets.{has, collect}
 use Rattle.fields.specs.Fields.{L, D, SD, SL, transitionCode}
-use Rattle.reader.specs.Chart.{noChart, withStep, withAction, withTransition, withBlock}
+use Rattle.chart.specs.Chart.{noChart, withStep, withAction, withTransition, withBlock}
+use Rattle.chart.specs.Held.{stepsCode, actionsCode, transitionsCode, blocksCode, casesCode, someInitial, timedFor, timedTwice, heldCode}
+use Rattle.chart.specs.declared.chart.Chart.{Chart}
 use Rattle.reader.specs.Framing.{recordNumber}
 use Rattle.reader.specs.Bodies.{bodyAt}
-use Rattle.reader.specs.Held.{stepsCode, actionsCode, transitionsCode, blocksCode, casesCode, someInitial, timedFor, timedTwice, heldCode}
 use Rattle.reader.specs.Reading.{readFrom, readChart}
-use Rattle.reader.specs.declared.chart.Chart.{Chart}
 use Rattle.reader.proofs.reading.Examples.{chartA}
 use Rattle.choice.specs.Choice.{chosen}
 use Rattle.acting.specs.Acting.{request, ripens, asked, acted}

@@ -8,9 +8,9 @@ use Rattle.sets.specs.Sets.{has}
 use Rattle.sets.proofs.Loops.{else-zero}
 use Rattle.sets.proofs.Members.{has-zero}
 use Rattle.fields.specs.Fields.{unless}
-use Rattle.reader.specs.Held.{chartCode}
-use Rattle.reader.specs.declared.chart.Chart.{Chart}
-use Rattle.reader.proofs.held.Sound.{sound}
+use Rattle.chart.specs.Held.{chartCode}
+use Rattle.chart.specs.declared.chart.Chart.{Chart}
+use Rattle.chart.proofs.held.Sound.{sound}
 use Rattle.run.specs.Run.{noRun}
 use Rattle.run.specs.declared.run.Run.{Run}
 use Rattle.cycle.specs.Time.{elapsed, grownCounts}

@@ -10,8 +10,8 @@ use borrow.Author.Tests.{eqb-true, eqb-false, ne-eqb}
 use Rattle.sets.specs.Loops.{summed, counted}
 use Rattle.sets.specs.Sets.{has}
 use Rattle.sets.proofs.Members.{has-collect}
-use Rattle.reader.specs.Held.{initialAt}
-use Rattle.reader.specs.declared.chart.Chart.{Chart}
+use Rattle.chart.specs.Held.{initialAt}
+use Rattle.chart.specs.declared.chart.Chart.{Chart}
 use Rattle.run.specs.declared.run.Run.{Run}
 use Rattle.cycle.specs.Cycling.{startOf}
 use Rattle.cycle.specs.Moving.{initialSet}

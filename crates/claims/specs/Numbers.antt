@@ -12,16 +12,16 @@ use borrow.Author.Tests.{eqb-true, eq-eqb, ne-eqb}
 use Rattle.sets.specs.Loops.{firstCode}
 use Rattle.sets.proofs.Loops.{first-found, length-table}
 use Rattle.fields.specs.Fields.{unless, stepFits, actionFits, blockFits, caseFits}
+use Rattle.chart.specs.Chart.{noChart}
+use Rattle.chart.specs.Held.{closingCode}
+use Rattle.chart.specs.declared.chart.Chart.{Chart}
+use Rattle.chart.proofs.held.Each.{either, else-each, transition-each, closing-each, chart-each}
 use Rattle.reader.specs.Framing.{lengthAt, kindAt, bodyLength, kindFits, headNumber, recordNumber}
 use Rattle.reader.specs.Bodies.{bodyAt}
-use Rattle.reader.specs.Chart.{noChart}
-use Rattle.reader.specs.Held.{closingCode}
 use Rattle.reader.specs.Reading.{refused, accepted, closed, ended, withBody, numberIn, taken, readFrom, readChart}
 use Rattle.reader.specs.declared.bodies.Body.{Body}
 use Rattle.reader.specs.declared.bodies.Body.the-variants.{Step, Action, Transition, Block, Case}
-use Rattle.reader.specs.declared.chart.Chart.{Chart}
 use Rattle.reader.specs.declared.reading.Reading.{Reading}
-use Rattle.reader.proofs.held.Each.{either, else-each, transition-each, closing-each, chart-each}
 use Rattle.run.specs.Run.{noRun}
 use Rattle.run.specs.Belongs.{belongs}
 use Rattle.run.specs.declared.run.Run.{Run}
@@ -88,7 +88,7 @@ weigh-names c weights = go (eqb (weighCode c weights) 0)
 
 -- ---- what holds of each number
 
--- the same of the other entries (the chart's own numbers: reader's held/Each)
+-- the same of the other entries (the chart's own numbers: chart's held/Each)
 module _ (P : ℕ → Type 0) where
   -- the record step: 1, 2, 3
   module _ (p0 : P 0) (p1 : P 1) (p2 : P 2) (p3 : P 3) where

@@ -8,8 +8,8 @@ use Rattle.sets.specs.Loops.{some, counted}
 use Rattle.sets.specs.Sets.{has}
 use Rattle.sets.proofs.Loops.{or-true, or-false}
 use Rattle.sets.proofs.Counts.{counted-same}
-use Rattle.reader.specs.Held.{chartCode}
-use Rattle.reader.specs.declared.chart.Chart.{Chart}
+use Rattle.chart.specs.Held.{chartCode}
+use Rattle.chart.specs.declared.chart.Chart.{Chart}
 use Rattle.run.specs.declared.run.Run.{Run}
 use Rattle.cycle.specs.Cycling.{startOf}
 use Rattle.cycle.specs.Moving.{signalsOf, asExpected}

@@ -12,16 +12,17 @@ use Rattle.sets.proofs.Unique.{is-in-unique, is-within-unique, is-apart-unique,
 use Rattle.sets.specs.Loops.{orElse}
 use Rattle.fields.specs.Fields.{timed, unless, stepFits, actionFits, transitionCode, blockFits, caseFits}
 use Rattle.fields.proofs.Unique.{is-timed-unique, or-else-unique, unless-unique, step-fits-unique, action-fits-unique, transition-code-unique, block-fits-unique, case-fits-unique}
+use Rattle.chart.specs.Chart.{noChart}
+use Rattle.chart.specs.Held.{closingCode, heldCode, chartCode}
+use Rattle.chart.specs.declared.chart.Chart.{Chart}
+use Rattle.chart.proofs.Unique.{no-chart-unique, index-of-unique, closing-code-unique, held-code-unique, chart-code-unique}
 use Rattle.reader.specs.Numbers.{leFrom}
 use Rattle.reader.specs.Framing.{Answers}
-use Rattle.reader.specs.Chart.{noChart}
-use Rattle.reader.specs.Held.{heldCode, chartCode}
 use Rattle.reader.specs.Reading.{readChart}
 use Rattle.reader.specs.declared.framing.Next.{Next}
-use Rattle.reader.specs.declared.chart.Chart.{Chart}
 use Rattle.reader.specs.declared.reading.Reading.{Reading}
 use Rattle.reader.proofs.framing.Laws.{record-at-unique}
-use Rattle.reader.proofs.Unique.{no-chart-unique, held-code-unique, chart-code-unique, from-unique, signed-unique, bits-of-unique, index-of-unique, read-chart-unique}
+use Rattle.reader.proofs.Unique.{from-unique, signed-unique, bits-of-unique, read-chart-unique}
 use Rattle.choice.specs.Choice.{choosing}
 use Rattle.choice.specs.declared.Choice.{Choice}
 use Rattle.choice.proofs.Unique.{choose-one-unique}
@@ -95,19 +96,23 @@ pub record FieldsUnique : Type 0 where
   pub block-fits : (steps actions step action qualifier duration : ℕ) → One (λ (r : Bool). r ≡ blockFits steps actions step action qualifier duration)
   pub case-fits : (steps actions step signal expected : ℕ) → One (λ (r : Bool). r ≡ caseFits steps actions step signal expected)
 
--- reader/src: chart, framing, held, numbers, reading
-pub record ReaderUnique : Type 0 where
+-- chart/src: chart, held
+pub record ChartUnique : Type 0 where
   pub no-chart : One (λ (r : Chart). r ≡ noChart)
-  pub record-at : (bytes : List ℕ) (at before : ℕ) → One (λ (r : Next). Answers r bytes at before)
+  pub index-of : (x : ℕ) → One (λ (r : ℕ). (r ≡ x) × (r < 256))
+  pub closing-code : (steps blocks : ℕ) (initial blockaction qualifier : List ℕ) → One (λ (r : ℕ). r ≡ closingCode steps blocks initial blockaction qualifier)
   pub held-code : (steps actions transitions blocks cases : ℕ) (initial output sources targets on off wait blockstep blockaction qualifier duration casestep signal expected : List ℕ)
       → One (λ (r : ℕ). r ≡ heldCode steps actions transitions blocks cases initial output sources targets on off wait blockstep blockaction qualifier duration casestep signal expected)
   pub chart-code : (chart : Chart) → One (λ (r : ℕ). r ≡ chartCode chart)
+
+-- reader/src: framing, numbers, reading
+pub record ReaderUnique : Type 0 where
+  pub record-at : (bytes : List ℕ) (at before : ℕ) → One (λ (r : Next). Answers r bytes at before)
   pub u16-from : (bytes : List ℕ) (at : ℕ) → One (λ (r : ℕ). r ≡ leFrom 2 bytes at)
   pub u32-from : (bytes : List ℕ) (at : ℕ) → One (λ (r : ℕ). r ≡ leFrom 4 bytes at)
   pub u64-from : (bytes : List ℕ) (at : ℕ) → One (λ (r : ℕ). r ≡ leFrom 8 bytes at)
   pub signed : (x : ℕ) → One (λ (r : ℤ). r ≡ toZ w32 x)
   pub bits-of : (v : ℤ) → One (λ (r : ℕ). r ≡ ofZ w32 v)
-  pub index-of : (x : ℕ) → One (λ (r : ℕ). (r ≡ x) × (r < 256))
   pub read-chart : (bytes : List ℕ) → One (λ (r : Reading). r ≡ readChart bytes)
 
 -- choice/src/lib.rt
@@ -161,6 +166,7 @@ pub record ReportUnique : Type 0 where
 pub record Unique : Type 0 where
   pub sets : SetsUnique
   pub fields : FieldsUnique
+  pub chart : ChartUnique
   pub reader : ReaderUnique
   pub choice : ChoiceUnique
   pub acting : ActingUnique
@@ -200,17 +206,20 @@ unique = record {
     block-fits = block-fits-unique;
     case-fits = case-fits-unique;
   };
-  reader = record {
+  chart = record {
     no-chart = no-chart-unique;
-    record-at = record-at-unique;
+    index-of = index-of-unique;
+    closing-code = closing-code-unique;
     held-code = held-code-unique;
     chart-code = chart-code-unique;
+  };
+  reader = record {
+    record-at = record-at-unique;
     u16-from = from-unique 2;
     u32-from = from-unique 4;
     u64-from = from-unique 8;
     signed = signed-unique;
     bits-of = bits-of-unique;
-    index-of = index-of-unique;
     read-chart = read-chart-unique;
   };
   choice = record { choose-one = choose-one-unique };

@@ -13,8 +13,8 @@ use Rattle.sets.specs.Sets.{has}
 use Rattle.sets.proofs.Loops.{else-zero, first-zero}
 use Rattle.sets.proofs.Counts.{summed-same}
 use Rattle.fields.specs.Fields.{unless}
-use Rattle.reader.specs.Held.{chartCode}
-use Rattle.reader.specs.declared.chart.Chart.{Chart}
+use Rattle.chart.specs.Held.{chartCode}
+use Rattle.chart.specs.declared.chart.Chart.{Chart}
 use Rattle.run.specs.declared.run.Run.{Run}
 use Rattle.cycle.specs.Cycling.{startOf}
 use Rattle.cycle.specs.Moving.{initialSet}

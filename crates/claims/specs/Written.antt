@@ -12,10 +12,10 @@ use borrow.Author.Tests.{le-leb, lt-leb}
 use Rattle.sets.specs.Bytes.{over}
 use Rattle.sets.proofs.Loops.{else-zero}
 use Rattle.fields.specs.Fields.{unless}
-use Rattle.reader.specs.Held.{chartCode}
+use Rattle.chart.specs.Held.{chartCode}
+use Rattle.chart.specs.declared.chart.Chart.{Chart}
+use Rattle.chart.proofs.held.Each.{either, else-each, chart-each}
 use Rattle.reader.specs.Reading.{accepted, readChart}
-use Rattle.reader.specs.declared.chart.Chart.{Chart}
-use Rattle.reader.proofs.held.Each.{either, else-each, chart-each}
 use Rattle.reader.proofs.reading.Accepted.{read-accepted}
 use Rattle.cycle.proofs.cycling.Laws.{stops, goes-on}
 use Rattle.writer.specs.Writing.{fileOf, writeCode, wrote, refused, writeChart}

@@ -5,7 +5,7 @@ use mathlib.Core.Path.{_≡_, sym, ap, _∙_}
 use lib.IntN.{ℤ}
 use lib.ListN.{length}
 use Rattle.sets.proofs.Unique.{one-answer}
-use Rattle.reader.specs.declared.chart.Chart.{Chart}
+use Rattle.chart.specs.declared.chart.Chart.{Chart}
 use Rattle.run.specs.declared.run.Run.{Run}
 use Rattle.cycle.specs.Time.{elapsed}
 use Rattle.cycle.specs.Moving.{initialOf}

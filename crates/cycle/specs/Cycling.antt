@@ -8,8 +8,8 @@ use lib.Dec.{leb, eqb}
 use Rattle.sets.specs.Loops.{orElse}
 use Rattle.sets.specs.Sets.{union}
 use Rattle.fields.specs.Fields.{unless}
-use Rattle.reader.specs.Held.{chartCode}
-use Rattle.reader.specs.declared.chart.Chart.{Chart}
+use Rattle.chart.specs.Held.{chartCode}
+use Rattle.chart.specs.declared.chart.Chart.{Chart}
 use Rattle.choice.specs.Choice.{chosen}
 use Rattle.choice.specs.declared.Choice.{Choice}
 use Rattle.acting.specs.Acting.{asked, acted}

@@ -7,7 +7,7 @@ use lib.ListN.{getD}
 use lib.Dec.{eqb, ltb, leb}
 use Rattle.sets.specs.Loops.{table}
 use Rattle.sets.specs.Sets.{has, collect}
-use Rattle.reader.specs.Held.{initialAt}
+use Rattle.chart.specs.Held.{initialAt}
 use Rattle.acting.specs.Acting.{keptCount}
 use Rattle.run.specs.Run.{counter, timer}
 use Rattle.run.specs.declared.run.StepCounter.{StepCounter}

@@ -5,7 +5,6 @@ ghost use lib.ListN.{getD};
 ghost use Rattle.acting.specs.Acting.{asked};
 use acting::Asked;
 use acting::Steps;
-use reader::numbers;
 
 pub(crate) fn ask_blocks<'a>(
     n: usize,
@@ -29,8 +28,8 @@ pub(crate) fn ask_blocks<'a>(
     };
     let mut i = 0;
     while i < n {
-        let s = numbers::index_of(blockstep[i]);
-        let a = numbers::index_of(blockaction[i]);
+        let s = chart::index_of(blockstep[i]);
+        let a = chart::index_of(blockaction[i]);
         let r = acting::asks(qualifier[i], duration[i], s, a, counts, times, steps);
         asked = acting::put(asked, a, r);
         i += 1;

@@ -4,7 +4,7 @@ ghost use mathlib.Core.Bool.{true};
 ghost use mathlib.Core.List.{_++_};
 ghost use Prim.Native.Nat.{_≤_};
 ghost use lib.ListN.{length, drop};
-ghost use Rattle.reader.specs.Held.{chartCode};
+ghost use Rattle.chart.specs.Held.{chartCode};
 ghost use Rattle.acting.specs.Acting.{asked, acted};
 ghost use Rattle.run.specs.Belongs.{belongs};
 ghost use Rattle.cycle.specs.Outputs.{outputsOf};
@@ -18,7 +18,7 @@ use crate::outputs;
 use crate::time;
 use acting::Acted;
 use acting::Steps;
-use reader::Chart;
+use chart::Chart;
 use run::Run;
 use run::belongs;
 use run::codes::OTHER_RUN;
@@ -81,7 +81,7 @@ pub fn start(chart: Chart, clock: u32, outputs: &mut [i32]) -> Cycled
     if outputs.len() < 32 {
         return refused(FEW_OUTPUTS, no_run());
     }
-    let code = reader::chart_code(chart);
+    let code = chart::chart_code(chart);
     if code != 0 {
         return refused(code, no_run());
     }
@@ -159,7 +159,7 @@ fn cycle_code<'a>(
     if lent < 32 {
         return FEW_OUTPUTS;
     }
-    let code = reader::held_code(
+    let code = chart::held_code(
         steps,
         actions,
         transitions,

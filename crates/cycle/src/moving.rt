@@ -3,7 +3,6 @@ ghost use mathlib.Core.Path.{_≡_};
 ghost use Prim.Native.Nat.{ℕ, _≤_, _<_, _^_};
 ghost use lib.ListN.{getD};
 ghost use Rattle.cycle.specs.Moving.{settledCounters, settledTimers, asExpected, marksOf, initialSet, initialOf, signalsOf};
-use reader::numbers;
 use run::run::ActionTimer;
 use run::run::StepCounter;
 
@@ -70,8 +69,8 @@ pub(crate) fn marks_of<'a>(
     let mut bad = 0u64;
     let mut i = 0;
     while i < n {
-        if sets::is_in_mod(left, numbers::index_of(step[i])) {
-            let fine = as_expected(numbers::index_of(signal[i]), expected[i], signals);
+        if sets::is_in_mod(left, chart::index_of(step[i])) {
+            let fine = as_expected(chart::index_of(signal[i]), expected[i], signals);
             good = sets::with_if_mod(good, i, fine);
             bad = sets::with_if_mod(bad, i, !fine);
         }

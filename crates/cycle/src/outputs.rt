@@ -4,7 +4,6 @@ ghost use mathlib.Core.List.{_++_};
 ghost use Prim.Native.Nat.{ℕ, _≤_, _<_};
 ghost use lib.ListN.{length, getD, drop};
 ghost use Rattle.cycle.specs.Outputs.{outputsOf, wiped, driven};
-use reader::numbers;
 
 fn wipe(out: &mut [i32])
     requires { ⌜ 32 ≤ length (now out) ⌝ }
@@ -26,7 +25,7 @@ fn drive<'a>(out: &mut [i32], n: usize, output: &'a [u8; 32], value: &'a [i32; 3
     while 0 < a {
         a -= 1;
         if sets::is_in_mod(activity, a) {
-            out[numbers::index_of(output[a])] = value[a];
+            out[chart::index_of(output[a])] = value[a];
         }
     }
 }

@@ -10,8 +10,8 @@ use lib.Seq.{set-set}
 use native.Mathlib.Nat.{pos-of-ne-zero}
 use native.Mathlib.Omega.{arith}
 use borrow.Author.Tests.{eqb-false, ltb-false, eq-eqb, ne-eqb}
+use Rattle.chart.specs.declared.chart.Chart.{Chart}
 use Rattle.reader.specs.Reading.{readChart}
-use Rattle.reader.specs.declared.chart.Chart.{Chart}
 use Rattle.reader.specs.declared.reading.Reading.{Reading}
 use Rattle.run.specs.declared.run.Run.{Run}
 use Rattle.cycle.specs.Cycling.{startOf, outputsAfter, cycleOn}

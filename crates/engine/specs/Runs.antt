@@ -6,9 +6,9 @@ use lib.IntN.{ℤ, pos}
 use lib.ListN.{length, getD, set, replicate}
 use lib.Dec.{eqb, ltb}
 use Rattle.sets.specs.Loops.{summed, turns}
-use Rattle.reader.specs.Held.{chartCode}
+use Rattle.chart.specs.Held.{chartCode}
+use Rattle.chart.specs.declared.chart.Chart.{Chart}
 use Rattle.reader.specs.Reading.{readChart}
-use Rattle.reader.specs.declared.chart.Chart.{Chart}
 use Rattle.run.specs.declared.run.Run.{Run}
 use Rattle.cycle.specs.Cycling.{startOf, outputsAfter, cycleOn}
 use Rattle.writer.specs.Writing.{writeChart}

@@ -4,7 +4,7 @@ ghost use Prim.Native.Nat.{_%_, _≤_, _<_};
 ghost use lib.ListN.{length};
 ghost use Rattle.engine.specs.Runs.{accepts, turned, began, ran, testsOf, writesOf};
 use crate::image;
-use reader::Chart;
+use chart::Chart;
 use run::Run;
 
 // How many cycles were accepted, and the run after the last.
@@ -123,7 +123,7 @@ pub(crate) fn test_held(chart: Chart, n: u32) -> u64
     let mut i = 0u32;
     while i < n {
         held.wait[0] = i;
-        let code = reader::held_code(
+        let code = chart::held_code(
             held.steps,
             held.actions,
             held.transitions,

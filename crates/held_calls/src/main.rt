@@ -3,8 +3,8 @@
 ghost use Prim.Native.Nat.{_≤_};
 ghost use mathlib.Core.Path.{_≡_};
 ghost use lib.ListN.{length};
+use chart::Chart;
 use cycle::Cycled;
-use reader::Chart;
 use reader::numbers;
 use run::Run;
 use run::run::ActionTimer;
@@ -299,7 +299,7 @@ fn put_cycled(line: &mut [u8], c: Cycled, outputs: &[i32]) -> usize {
 
 fn start(image: &[u8], line: &mut [u8]) -> usize {
     let mut room = lent();
-    let n = numbers::index_of(byte_from(image, 4997));
+    let n = chart::index_of(byte_from(image, 4997));
     let outputs: &mut [i32] = &mut room[..n];
     let c = cycle::start(chart_of(image), numbers::u32_from(image, 4989), outputs);
     put_cycled(line, c, outputs)
@@ -307,7 +307,7 @@ fn start(image: &[u8], line: &mut [u8]) -> usize {
 
 fn cycle(image: &[u8], line: &mut [u8]) -> usize {
     let mut room = lent();
-    let n = numbers::index_of(byte_from(image, 4997));
+    let n = chart::index_of(byte_from(image, 4997));
     let outputs: &mut [i32] = &mut room[..n];
     let clock = numbers::u32_from(image, 4989);
     let inputs = numbers::u32_from(image, 4993);
@@ -325,7 +325,7 @@ fn tally(image: &[u8], line: &mut [u8]) -> usize {
 
 fn weigh(image: &[u8], tail: &[u8], line: &mut [u8]) -> usize {
     let weights = weights_of(tail);
-    let n = numbers::index_of(byte_from(image, 4998));
+    let n = chart::index_of(byte_from(image, 4998));
     let w = tally::weigh(chart_of(image), &weights[..n]);
     let code = put_number(line, 0, w.code as u64);
     let transition = put_number(line, code, w.transition as u64);
@@ -345,7 +345,7 @@ fn put_lent(line: &mut [u8], used: usize, bytes: &[u8]) -> usize {
     let mut end = used;
     let mut k = 0;
     while k < bytes.len() {
-        end = put_number(line, end, numbers::index_of(bytes[k]) as u64);
+        end = put_number(line, end, chart::index_of(bytes[k]) as u64);
         k += 1;
     }
     end
@@ -380,7 +380,7 @@ fn one_case(image: &mut [u8], tail: &mut [u8], line: &mut [u8]) -> bool {
     if io::read_full(0, &mut image[..IMAGE]) < IMAGE {
         return false;
     }
-    let n = 2 * numbers::index_of(byte_from(image, 4998));
+    let n = 2 * chart::index_of(byte_from(image, 4998));
     if tail.len() < n {
         return false;
     }

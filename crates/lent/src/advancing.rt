@@ -3,8 +3,8 @@ ghost use mathlib.Core.Path.{_≡_};
 ghost use lib.ListN.{length};
 ghost use Rattle.cycle.specs.Cycling.{cycleOf, outputsAfter};
 ghost use Rattle.lent.specs.Advancing.{asCycled};
+use chart::Chart;
 use cycle::Cycled;
-use reader::Chart;
 use run::Run;
 
 pub struct Advanced {

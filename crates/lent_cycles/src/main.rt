@@ -2,8 +2,8 @@
 // cycles in two, and for each cycle its clock and its inputs in four, the least byte first); for each call a line `code taken active
 // activity clock`. A refused call shows the run as it was before it.
 ghost use Prim.Native.Nat.{_≤_};
+use chart::Chart;
 use cycle::Cycled;
-use reader::Chart;
 use run::Run;
 
 fn wide(x: u8) -> usize

@@ -4,13 +4,13 @@ use mathlib.Core.List.{List}
 use mathlib.Core.Bool.{cond}
 use lib.ListN.{length}
 use lib.Dec.{ltb, eqb}
+use Rattle.chart.specs.Chart.{noChart, withStep, withAction, withTransition, withBlock, withCase}
+use Rattle.chart.specs.Held.{closingCode}
+use Rattle.chart.specs.declared.chart.Chart.{Chart}
 use Rattle.reader.specs.Framing.{lengthAt, kindAt, recordNumber}
 use Rattle.reader.specs.Bodies.{bodyAt, bodyCode}
-use Rattle.reader.specs.Chart.{noChart, withStep, withAction, withTransition, withBlock, withCase}
-use Rattle.reader.specs.Held.{closingCode}
 use Rattle.reader.specs.declared.bodies.Body.{Body}
 use Rattle.reader.specs.declared.bodies.Body.the-variants.{Step, Action, Transition, Block, Case}
-use Rattle.reader.specs.declared.chart.Chart.{Chart}
 use Rattle.reader.specs.declared.reading.Reading.{Reading}
 
 -- "A refused reading returns an all-zero chart and a place"

@@ -4,8 +4,8 @@ ghost use Prim.Native.Nat.{_+_, _≤_};
 ghost use lib.ListN.{length};
 ghost use Rattle.reader.specs.Framing.{bodyLength};
 ghost use Rattle.reader.specs.Bodies.{bodyOf, fieldsAt, bodyAt, limited, bodyCode};
-use crate::codes::TOO_MANY;
 use crate::numbers;
+use chart::codes::TOO_MANY;
 use fields::codes::BAD_FIELD;
 
 pub enum Body {

@@ -1,6 +1,6 @@
 // Numbers in a file, the least byte first. Each wider one is two of half its width.
 ghost use mathlib.Core.Path.{_≡_};
-ghost use Prim.Native.Nat.{_+_, _-_, _≤_, _<_};
+ghost use Prim.Native.Nat.{_+_, _-_, _≤_};
 ghost use lib.ListN.{length};
 ghost use mir.Syntax.{w32};
 ghost use mir.Val.{toZ, ofZ};
@@ -89,11 +89,4 @@ pub fn bits_of(v: i32) -> u32
         return 4294967295 - low as u32;
     }
     v as u32
-}
-
-// A byte that names an entry of a table.
-pub fn index_of(x: u8) -> usize
-    ensures { λ r. ⌜ (r ≡ x) × (r < 256) ⌝ }
-{
-    x as usize
 }

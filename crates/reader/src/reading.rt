@@ -1,15 +1,13 @@
 // A whole file: record after record into the chart, then what is tested at the end.
 ghost use mathlib.Core.Path.{_≡_};
-ghost use Prim.Native.Nat.{_≤_};
 ghost use Rattle.reader.specs.Reading.{refused, ended, readChart};
 use crate::bodies;
 use crate::bodies::Body;
-use crate::chart::Chart;
-use crate::chart::no_chart;
 use crate::codes::SURPLUS;
 use crate::framing;
 use crate::framing::Next;
-use crate::held;
+use chart::Chart;
+use chart::no_chart;
 
 pub struct Reading {
     pub code: u8,
@@ -29,13 +27,12 @@ fn refused(code: u8, place: usize) -> Reading
 
 // After the end record, which ends at `next` of `size` bytes: surplus bytes (10), then 9, 8.
 fn ended(size: usize, next: usize, chart: Chart) -> Reading
-    requires { ⌜ (chart .steps ≤ 64) × (chart .blocks ≤ 256) ⌝ }
     ensures { λ r. ⌜ r ≡ ended size next chart ⌝ }
 {
     if next < size {
         return refused(SURPLUS, next);
     }
-    let code = held::closing_code(
+    let code = chart::closing_code(
         chart.steps,
         chart.blocks,
         &chart.initial,

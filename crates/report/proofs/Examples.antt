@@ -5,9 +5,9 @@ use mathlib.Core.Path.{_≡_, refl}
 use Rattle.sets.specs.Loops.{all, some, summed, firstCode, tableFrom, turns}
 use Rattle.sets.specs.Sets.{collect}
 use Rattle.fields.specs.Fields.{transitionCode}
+use Rattle.chart.specs.Held.{stepsCode, actionsCode, transitionsCode, blocksCode, casesCode, someInitial, timedFor, timedTwice, heldCode}
 use Rattle.reader.specs.Framing.{recordNumber}
 use Rattle.reader.specs.Bodies.{bodyAt}
-use Rattle.reader.specs.Held.{stepsCode, actionsCode, transitionsCode, blocksCode, casesCode, someInitial, timedFor, timedTwice, heldCode}
 use Rattle.reader.specs.Reading.{readFrom}
 use Rattle.reader.proofs.reading.Examples.{chartA}
 use Rattle.choice.specs.Choice.{chosen}

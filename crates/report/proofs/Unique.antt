@@ -4,7 +4,7 @@ use mathlib.Core.List.{List}
 use mathlib.Core.Path.{_≡_}
 use lib.ListN.{length}
 use Rattle.sets.proofs.Unique.{one-answer}
-use Rattle.reader.specs.declared.chart.Chart.{Chart}
+use Rattle.chart.specs.declared.chart.Chart.{Chart}
 use Rattle.report.specs.Printing.{opening, printedOf, lineAfter}
 use Rattle.report.specs.declared.printing.Standing.{Standing}
 use Rattle.report.specs.declared.printing.Printed.{Printed}

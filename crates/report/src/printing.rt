@@ -7,7 +7,7 @@ ghost use Rattle.trace.specs.Tracing.{callAt};
 ghost use Rattle.report.specs.Printing.{callLine, closingLine, numberAt, opening, unmoved, stepped, Prints, lineFor, standingFor, printedOf, lineAfter};
 use crate::lines;
 use crate::lines::LINE;
-use reader::Chart;
+use chart::Chart;
 use run::Run;
 use run::no_run;
 use tally::Tallied;

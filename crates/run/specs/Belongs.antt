@@ -7,7 +7,7 @@ use lib.ListN.{getD}
 use lib.Dec.{leb, eqb}
 use Rattle.sets.specs.Loops.{all}
 use Rattle.sets.specs.Sets.{has, Below}
-use Rattle.reader.specs.declared.chart.Chart.{Chart}
+use Rattle.chart.specs.declared.chart.Chart.{Chart}
 use Rattle.run.specs.Run.{longest, counter, timer}
 use Rattle.run.specs.declared.run.StepCounter.{StepCounter}
 use Rattle.run.specs.declared.run.ActionTimer.{ActionTimer}

@@ -1,8 +1,8 @@
 // A test of start and cycle: cases from standard input, each a chart after its length in two bytes, the start's clock in four, a number of
 // cycles in two, and for each cycle its clock and its inputs in four (the least byte first); for each call one line with all it answers.
 ghost use Prim.Native.Nat.{_≤_};
+use chart::Chart;
 use cycle::Cycled;
-use reader::Chart;
 use run::Run;
 use run::run::ActionTimer;
 use run::run::StepCounter;

@@ -3,14 +3,14 @@ use mathlib.Core.Path.{_≡_, refl, sym, ap, ap₂, _∙_}
 use mathlib.Core.Bool.{Bool, true, false, _&&_, _||_, cond}
 use mathlib.Core.Logic.{⊎-elim}
 use mathlib.Core.List.{List}
-use Prim.Native.Nat.{ℕ, zero, suc, _+_, _-_, _≤_, _<_}
+use Prim.Native.Nat.{ℕ, zero, suc, _+_, _-_, _≤_, _<_, min}
 use native.Mathlib.Nat.{eq-or-lt-of-le, le-of-suc-le-suc, le-antisymm, zero-add, suc-add}
 use native.Mathlib.Numerals.{add-one}
 use native.Mathlib.Omega.{arith}
-use lib.Dec.{eqb}
+use lib.Dec.{leb, eqb}
 use lib.ListN.{length, getD, set, length-set}
 use lib.Seq.{ext-getD, getD-set-same, getD-set-other}
-use borrow.Author.Tests.{eq-eqb, ne-eqb, eqb-true, eqb-false}
+use borrow.Author.Tests.{leb-true, leb-false, eq-eqb, ne-eqb, eqb-true, eqb-false}
 use Rattle.sets.specs.Loops.{all, some, orElse, firstCode, tableFrom, table, turns}
 
 -- ---- Bool
@@ -110,6 +110,19 @@ some-start p = refl
 pub some-turn : (p : ℕ → Bool) (k : ℕ) {any b : Bool} → any ≡ some p k → b ≡ p k → any || b ≡ some p (k + 1)
 unfolding some
 some-turn p k e h = rw (add-one, e, h)
+
+-- where p holds of none from m on, it is enough to look below m
+pub some-capped : (p : ℕ → Bool) (m n : ℕ) → ((k : ℕ) → m ≤ k → p k ≡ false) → some p (min n m) ≡ some p n
+unfolding some
+some-capped p m zero h = let none : min 0 m ≡ 0 = omega arith in rw none
+some-capped p m (suc n) h = go (leb m n) refl (some-capped p m n h)
+  where
+    go : (t : Bool) → leb m n ≡ t → some p (min n m) ≡ some p n → some p (min (suc n) m) ≡ some p n || p n
+    go true e q =
+        let l = leb-true m n e in
+        let same : min (suc n) m ≡ min n m = omega arith in
+        rw (same, h n l, or-false) q
+    go false e q = let l = leb-false m n e in let same : min (suc n) m ≡ suc n = omega arith in rw same
 
 -- ---- the first number that is not 0
 

@@ -5,8 +5,8 @@ use lib.Dec.{eqb}
 use Rattle.sets.specs.Loops.{orElse, counted}
 use Rattle.sets.specs.Sets.{has}
 use Rattle.fields.specs.Fields.{unless}
-use Rattle.reader.specs.Held.{chartCode}
-use Rattle.reader.specs.declared.chart.Chart.{Chart}
+use Rattle.chart.specs.Held.{chartCode}
+use Rattle.chart.specs.declared.chart.Chart.{Chart}
 use Rattle.run.specs.Belongs.{belongs}
 use Rattle.run.specs.declared.run.Run.{Run}
 use Rattle.tally.specs.declared.tallying.Tallied.{Tallied}

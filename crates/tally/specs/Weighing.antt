@@ -7,8 +7,8 @@ use lib.Dec.{eqb}
 use Rattle.sets.specs.Loops.{orElse, firstCode, summed}
 use Rattle.sets.specs.Sets.{has}
 use Rattle.fields.specs.Fields.{unless}
-use Rattle.reader.specs.Held.{chartCode}
-use Rattle.reader.specs.declared.chart.Chart.{Chart}
+use Rattle.chart.specs.Held.{chartCode}
+use Rattle.chart.specs.declared.chart.Chart.{Chart}
 use Rattle.cycle.specs.Moving.{initialSet}
 use Rattle.tally.specs.declared.weighing.Weighed.{Weighed}
 

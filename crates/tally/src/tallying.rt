@@ -1,7 +1,7 @@
 // The cases of a run, counted from its marks.
 ghost use mathlib.Core.Path.{_≡_};
 ghost use Rattle.tally.specs.Tallying.{refused, tallyOf};
-use reader::Chart;
+use chart::Chart;
 use run::Run;
 use run::codes::OTHER_RUN;
 
@@ -26,7 +26,7 @@ fn refused(code: u8) -> Tallied
 pub fn tally(chart: Chart, run: Run) -> Tallied
     ensures { λ r. ⌜ r ≡ tallyOf chart run ⌝ }
 {
-    let code = reader::chart_code(chart);
+    let code = chart::chart_code(chart);
     if code != 0 {
         return refused(code);
     }

@@ -6,7 +6,7 @@ ghost use lib.ListN.{length};
 ghost use Rattle.tally.specs.Weighing.{weightIn, unbalanced, refused, weighOf};
 use crate::codes::UNBALANCED;
 use crate::codes::WRONG_WEIGHTS;
-use reader::Chart;
+use chart::Chart;
 
 pub struct Weighed {
     pub code: u8,
@@ -68,7 +68,7 @@ fn unbalanced<'a>(
 pub fn weigh(chart: Chart, weights: &[u16]) -> Weighed
     ensures { λ r. ⌜ r ≡ weighOf chart (now (weights .entry)) ⌝ }
 {
-    let code = reader::chart_code(chart);
+    let code = chart::chart_code(chart);
     if code != 0 {
         return refused(code, 0);
     }

@@ -4,10 +4,10 @@ use mathlib.Core.List.{List, [], _∷_}
 use mathlib.Core.Path.{_≡_, refl}
 use Rattle.sets.specs.Loops.{all, some, firstCode}
 use Rattle.fields.specs.Fields.{transitionCode}
+use Rattle.chart.specs.Chart.{noChart, withStep}
+use Rattle.chart.specs.Held.{someInitial, timedTwice, timedFor, stepsCode, actionsCode, transitionsCode, blocksCode, casesCode, heldCode}
 use Rattle.reader.specs.Framing.{recordNumber}
 use Rattle.reader.specs.Bodies.{bodyAt}
-use Rattle.reader.specs.Chart.{noChart, withStep}
-use Rattle.reader.specs.Held.{someInitial, timedTwice, timedFor, stepsCode, actionsCode, transitionsCode, blocksCode, casesCode, heldCode}
 use Rattle.reader.specs.Reading.{readFrom, readChart}
 use Rattle.reader.proofs.reading.Examples.{chartA}
 use Rattle.writer.specs.Writing.{joined, fileOf, refused, writeChart}

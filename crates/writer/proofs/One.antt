@@ -11,16 +11,16 @@ use mir.Syntax.{w32}
 use mir.Val.{SFits}
 use mir.Facts.{fits-ofZ, toZ-ofZ}
 use Rattle.fields.specs.Fields.{unless, stepFits, actionFits}
+use Rattle.chart.specs.Held.{closingCode}
+use Rattle.chart.specs.declared.chart.Chart.{Chart}
+use Rattle.chart.proofs.held.Sound.{fits, transition-zero, block-fits, case-fits}
 use Rattle.reader.specs.Framing.{lengthAt, kindAt, widths, bodyLength, recordBytes, kindFits, recordNumber}
 use Rattle.reader.specs.Bodies.{limited, bodyOf, kindOf, fieldsOf, recordOf, bodyAt, fieldsAt}
-use Rattle.reader.specs.Held.{closingCode}
 use Rattle.reader.specs.Reading.{accepted, withBody, numberIn, readFrom}
 use Rattle.reader.specs.declared.bodies.Body.{Body}
 use Rattle.reader.specs.declared.bodies.Body.the-variants.{Step, Action, Transition, Block, Case}
-use Rattle.reader.specs.declared.chart.Chart.{Chart}
 use Rattle.reader.proofs.framing.Laws.{is-record}
 use Rattle.reader.proofs.reading.Laws.{limited-zero}
-use Rattle.reader.proofs.held.Sound.{fits, transition-zero, block-fits, case-fits}
 use Rattle.writer.proofs.Standing.{Stands, stands-first, stands-last, stands-whole, Fit, numbers-back, numbers-length}
 
 -- ---- a part of the bytes, up to a place

@@ -13,16 +13,16 @@ use borrow.Author.Tests.{lt-ltb, ltb-true, eqb-true, eqb-false}
 use Rattle.sets.specs.Loops.{some, tableFrom}
 use Rattle.sets.proofs.Loops.{bool-eq, first-zero, length-table, getD-table, is-table}
 use Rattle.fields.specs.Fields.{timed, unless}
+use Rattle.chart.specs.Chart.{noChart}
+use Rattle.chart.specs.Held.{stepsCode, stepFitsAt, actionsCode, actionFitsAt, transitionsCode, transitionCodeAt, blocksCode, blockFitsAt, casesCode, caseFitsAt, initialAt, someInitial, timedFor, timedAgain, timedTwice, chartCode}
+use Rattle.chart.specs.declared.chart.Chart.{Chart}
+use Rattle.chart.proofs.held.Laws.{Limits, limits}
+use Rattle.chart.proofs.held.Sound.{Zero, is-zero}
 use Rattle.reader.specs.Framing.{recordBytes}
 use Rattle.reader.specs.Bodies.{kindOf, recordOf, limited}
-use Rattle.reader.specs.Chart.{noChart}
-use Rattle.reader.specs.Held.{stepsCode, stepFitsAt, actionsCode, actionFitsAt, transitionsCode, transitionCodeAt, blocksCode, blockFitsAt, casesCode, caseFitsAt, initialAt, someInitial, timedFor, timedAgain, timedTwice, chartCode}
 use Rattle.reader.specs.Reading.{accepted, withBody, numberIn, readFrom, readChart}
 use Rattle.reader.specs.declared.bodies.Body.{Body}
-use Rattle.reader.specs.declared.chart.Chart.{Chart}
 use Rattle.reader.specs.declared.reading.Reading.{Reading}
-use Rattle.reader.proofs.held.Laws.{Limits, limits}
-use Rattle.reader.proofs.held.Sound.{Zero, is-zero}
 use Rattle.writer.specs.Writing.{stepIn, actionIn, transitionIn, blockIn, caseIn, joined, records, stepRecords, actionRecords, transitionRecords, blockRecords, caseRecords, chartRecords, fileOf}
 use Rattle.writer.specs.Back.{upTo, firstRecords, asCounted, Typed}
 use Rattle.writer.proofs.One.{Part, whole, split, Faithful, read-one, read-end, Sized, faithful}

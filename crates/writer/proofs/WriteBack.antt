@@ -9,14 +9,14 @@ use lib.IntN.{ℤ, pos}
 use lib.ListN.{length, set, length-append}
 use mir.Syntax.{w32}
 use mir.Facts.{ofZ-toZ}
+use Rattle.chart.specs.Chart.{noChart}
+use Rattle.chart.specs.declared.chart.Chart.{Chart}
 use Rattle.reader.specs.Numbers.{le}
 use Rattle.reader.specs.Framing.{lengthAt, kindAt, widths, bodyLength, recordBytes}
 use Rattle.reader.specs.Bodies.{bodyOf, kindOf, fieldsOf, fieldsAt, bodyAt, recordOf}
-use Rattle.reader.specs.Chart.{noChart}
 use Rattle.reader.specs.Reading.{withBody, numberIn, readChart}
 use Rattle.reader.specs.declared.bodies.Body.{Body}
 use Rattle.reader.specs.declared.bodies.Body.the-variants.{Step, Action, Transition, Block, Case}
-use Rattle.reader.specs.declared.chart.Chart.{Chart}
 use Rattle.reader.proofs.framing.Laws.{Headed, Known}
 use Rattle.reader.proofs.reading.Kept.{Kept, kept-start, older, newest}
 use Rattle.reader.proofs.reading.Laws.{room}

@@ -8,7 +8,7 @@ use lib.Dec.{ltb}
 use mir.Syntax.{w32}
 use mir.Val.{SFits}
 use Rattle.sets.specs.Loops.{table}
-use Rattle.reader.specs.declared.chart.Chart.{Chart}
+use Rattle.chart.specs.declared.chart.Chart.{Chart}
 
 -- the first n entries of a table, then zeros up to its limit
 abbrev pub upTo : {A : Type 0} → A → ℕ → ℕ → List A → List A

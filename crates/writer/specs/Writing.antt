@@ -9,12 +9,12 @@ use lib.Dec.{leb, eqb}
 use Rattle.sets.specs.Loops.{orElse}
 use Rattle.sets.specs.Bytes.{over}
 use Rattle.fields.specs.Fields.{unless}
+use Rattle.chart.specs.Held.{chartCode}
+use Rattle.chart.specs.declared.chart.Chart.{Chart}
 use Rattle.reader.specs.Framing.{bodyLength, recordBytes}
 use Rattle.reader.specs.Bodies.{recordOf}
-use Rattle.reader.specs.Held.{chartCode}
 use Rattle.reader.specs.declared.bodies.Body.{Body}
 use Rattle.reader.specs.declared.bodies.Body.the-variants.{Step, Action, Transition, Block, Case}
-use Rattle.reader.specs.declared.chart.Chart.{Chart}
 use Rattle.writer.specs.declared.writing.Writing.{Writing}
 
 -- record i of a kind, from its tables

@@ -8,7 +8,7 @@ ghost use Rattle.writer.specs.Writing.{stepIn, actionIn, transitionIn, b
 ghost use Rattle.writer.specs.declared.writing.Writing.{Writing};
 use crate::codes::TOO_FEW_BYTES;
 use crate::records;
-use reader::Chart;
+use chart::Chart;
 
 pub struct Writing {
     pub code: u8,
@@ -139,7 +139,7 @@ fn file_length(
 pub fn write_chart(chart: Chart, bytes: &mut [u8]) -> Writing
     ensures { λ r. ⌜ _≡_ {A = Writing × List ℕ} (r, now (bytes .exit)) (writeChart chart (now (bytes .entry))) ⌝ }
 {
-    let code = reader::chart_code(chart);
+    let code = chart::chart_code(chart);
     if code != 0 {
         return refused(code);
     }

@@ -13,9 +13,9 @@ use Rattle.sets.proofs.Loops.{and-true, or-true, true-all, else-zero, getD-tabl
 use Rattle.sets.proofs.Members.{has-zero}
 use Rattle.sets.proofs.Below.{below-zero, below-collect, below-union, below-inter, below-minus, below-named, has-minus}
 use Rattle.fields.specs.Fields.{unless}
-use Rattle.reader.specs.Held.{chartCode}
-use Rattle.reader.specs.declared.chart.Chart.{Chart}
-use Rattle.reader.proofs.held.Sound.{Sound, sound}
+use Rattle.chart.specs.Held.{chartCode}
+use Rattle.chart.specs.declared.chart.Chart.{Chart}
+use Rattle.chart.proofs.held.Sound.{Sound, sound}
 use Rattle.choice.specs.Choice.{ready, ripe, takes, choosingAt, noneTaken, chosen}
 use Rattle.choice.specs.declared.Choice.{Choice}
 use Rattle.acting.specs.Acting.{keptCount, sets, latches, wants, requestOf, asked, storedAfter, latchedAfter, acted}

@@ -13,9 +13,9 @@ use Rattle.sets.specs.Loops.{orElse}
 use Rattle.sets.specs.Sets.{union}
 use Rattle.sets.proofs.Loops.{else-zero}
 use Rattle.fields.specs.Fields.{unless}
-use Rattle.reader.specs.Held.{chartCode}
-use Rattle.reader.specs.declared.chart.Chart.{Chart}
-use Rattle.reader.proofs.held.Sound.{Sound, fits}
+use Rattle.chart.specs.Held.{chartCode}
+use Rattle.chart.specs.declared.chart.Chart.{Chart}
+use Rattle.chart.proofs.held.Sound.{Sound, fits}
 use Rattle.choice.specs.declared.Choice.{Choice}
 use Rattle.acting.specs.declared.Steps.{Steps}
 use Rattle.acting.specs.declared.Acted.{Acted}

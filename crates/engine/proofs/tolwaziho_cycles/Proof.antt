@@ -5,7 +5,7 @@ use mathlib.Core.List.{List}
 use Prim.Native.Nat.{ℕ}
 use lib.ListN.{length}
 use borrow.Author.Needs.{needs}
-use Rattle.reader.specs.declared.chart.Chart.{Chart}
+use Rattle.chart.specs.declared.chart.Chart.{Chart}
 use Rattle.engine.specs.Runs.{ran, unfit, cyclesOf}
 use Rattle.engine.proofs.Laws.{fit, if-unfit, if-refused, if-read}
 use Rattle.engine.proofs.tolwaziho_cycles.Statement.{statement}

@@ -3,7 +3,7 @@ use Prim.Native.Nat.{ℕ}
 use mathlib.Core.List.{List}
 use borrow.Author.Needs.{needs}
 use borrow.Author.Tests.{lt-ltb, le-ltb}
-use Rattle.reader.specs.declared.chart.Chart.{Chart}
+use Rattle.chart.specs.declared.chart.Chart.{Chart}
 use Rattle.engine.specs.Runs.{began, startsOf}
 use Rattle.engine.proofs.Laws.{if-unfit, if-refused, if-read}
 use Rattle.engine.proofs.tolwaziho_start.Statement.{statement}

@@ -11,16 +11,16 @@ use native.Mathlib.Omega.{arith}
 use borrow.Author.Tests.{le-leb, eqb-true, eqb-false, ltb-false}
 use Rattle.sets.specs.Loops.{orElse}
 use Rattle.fields.specs.Fields.{unless}
+use Rattle.chart.specs.Chart.{noChart}
+use Rattle.chart.specs.Held.{limitsFit, closingCode, heldCode, chartCode}
+use Rattle.chart.specs.declared.chart.Chart.{Chart}
+use Rattle.chart.proofs.held.Laws.{Limits}
 use Rattle.reader.specs.Framing.{lengthAt, kindAt, bodyLength, recordNumber}
 use Rattle.reader.specs.Bodies.{bodyAt}
-use Rattle.reader.specs.Chart.{noChart}
-use Rattle.reader.specs.Held.{limitsFit, closingCode, heldCode, chartCode}
 use Rattle.reader.specs.Reading.{refused, accepted, closed, ended, withBody, numberIn, taken, readFrom, readChart}
 use Rattle.reader.specs.declared.bodies.Body.{Body}
-use Rattle.reader.specs.declared.chart.Chart.{Chart}
 use Rattle.reader.specs.declared.reading.Reading.{Reading}
 use Rattle.reader.proofs.framing.Laws.{Headed, is-headed, Known, is-known}
-use Rattle.reader.proofs.held.Laws.{Limits}
 use Rattle.reader.proofs.reading.Kept.{Column, Kept, kept-start, kept-step, kept-action, kept-transition, kept-block, kept-case}
 
 -- "zeros beyond its counts"

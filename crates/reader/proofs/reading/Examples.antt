@@ -4,10 +4,10 @@ use mathlib.Core.List.{List, [], _∷_}
 use mathlib.Core.Path.{_≡_, refl}
 use Rattle.sets.specs.Loops.{all, some, firstCode}
 use Rattle.fields.specs.Fields.{transitionCode}
+use Rattle.chart.specs.Chart.{noChart, withStep}
+use Rattle.chart.specs.Held.{someInitial, timedTwice, timedFor, stepsCode, actionsCode, transitionsCode, blocksCode, casesCode, heldCode, chartCode}
 use Rattle.reader.specs.Framing.{recordNumber}
 use Rattle.reader.specs.Bodies.{bodyAt}
-use Rattle.reader.specs.Chart.{noChart, withStep}
-use Rattle.reader.specs.Held.{someInitial, timedTwice, timedFor, stepsCode, actionsCode, transitionsCode, blocksCode, casesCode, heldCode, chartCode}
 use Rattle.reader.specs.Reading.{refused, accepted, readFrom, readChart}
 
 -- "Empty file: 1, place 0"

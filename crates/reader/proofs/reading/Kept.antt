@@ -10,12 +10,12 @@ use lib.Dec.{ltb}
 use Rattle.sets.specs.Loops.{firstCode}
 use Rattle.sets.proofs.Loops.{first-start, first-turn, first-same}
 use Rattle.fields.specs.Fields.{unless, stepFits, actionFits, transitionCode, blockFits, caseFits}
-use Rattle.reader.specs.Held.{stepsCode, actionsCode, transitionsCode, blocksCode, casesCode, stepFitsAt, actionFitsAt, transitionCodeAt, blockFitsAt, caseFitsAt}
-use Rattle.reader.specs.Chart.{noChart, withStep, withAction, withTransition, withBlock, withCase}
+use Rattle.chart.specs.Held.{stepsCode, actionsCode, transitionsCode, blocksCode, casesCode, stepFitsAt, actionFitsAt, transitionCodeAt, blockFitsAt, caseFitsAt}
+use Rattle.chart.specs.Chart.{noChart, withStep, withAction, withTransition, withBlock, withCase}
+use Rattle.chart.specs.declared.chart.Chart.{Chart}
+use Rattle.chart.proofs.held.Laws.{Limits}
 use Rattle.reader.specs.Reading.{numberIn}
 use Rattle.reader.specs.declared.bodies.Body.the-variants.{Step, Action, Transition, Block, Case}
-use Rattle.reader.specs.declared.chart.Chart.{Chart}
-use Rattle.reader.proofs.held.Laws.{Limits}
 use Rattle.reader.proofs.reading.Laws.{room, limited-zero}
 
 -- ---- a column: as long as its limit, with zeros from the count on

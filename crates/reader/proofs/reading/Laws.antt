@@ -7,13 +7,13 @@ use lib.ListN.{length}
 use lib.Dec.{eqb}
 use native.Mathlib.Omega.{arith}
 use borrow.Author.Tests.{eq-eqb, ne-eqb, ltb-true}
+use Rattle.chart.specs.Chart.{noChart}
+use Rattle.chart.specs.declared.chart.Chart.{Chart}
 use Rattle.reader.specs.Framing.{lengthAt, kindAt, recordNumber}
 use Rattle.reader.specs.Bodies.{bodyAt, limited}
-use Rattle.reader.specs.Chart.{noChart}
 use Rattle.reader.specs.Reading.{refused, ended, withBody, numberIn, taken, readFrom, readChart}
 use Rattle.reader.specs.declared.bodies.Body.{Body}
 use Rattle.reader.specs.declared.bodies.Body.the-variants.{Step, Action, Transition, Block, Case}
-use Rattle.reader.specs.declared.chart.Chart.{Chart}
 use Rattle.reader.proofs.framing.Laws.{Found}
 
 -- ---- a body whose number is 0
@@ -37,20 +37,6 @@ room c (Transition s t on off w) e = ltb-true _ _ (limited-zero _ _ e .0)
 room c (Block s a q d) e = ltb-true _ _ (limited-zero _ _ e .0)
 room c (Case s n m) e = ltb-true _ _ (limited-zero _ _ e .0)
 
-more-steps : (c : Chart) (b : Body) → numberIn c b ≡ 0 → c .steps ≤ 64 → withBody c b .steps ≤ 64
-more-steps c (Step i) e l = let h = room c (Step i) e in omega arith
-more-steps c (Action o v) e l = l
-more-steps c (Transition s t on off w) e l = l
-more-steps c (Block s a q d) e l = l
-more-steps c (Case s n m) e l = l
-
-more-blocks : (c : Chart) (b : Body) → numberIn c b ≡ 0 → c .blocks ≤ 256 → withBody c b .blocks ≤ 256
-more-blocks c (Step i) e l = l
-more-blocks c (Action o v) e l = l
-more-blocks c (Transition s t on off w) e l = l
-more-blocks c (Block s a q d) e l = let h = room c (Block s a q d) e in omega arith
-more-blocks c (Case s n m) e l = l
-
 -- ---- where the loop stands
 
 shorter : (l at m p n f : ℕ) → p ≡ at + 4 → n ≡ m → at + 4 + m ≤ l → l - at ≤ f → l - (p + n) < f
@@ -60,11 +46,9 @@ pub record Onward (s : List ℕ) (at before : ℕ) (c : Chart) : Type 0 where
   pub fuel : ℕ
   pub enough : length s - at < fuel
   pub same : readFrom fuel s at before c ≡ readChart s
-  pub steps : c .steps ≤ 64
-  pub blocks : c .blocks ≤ 256
 
 pub begin : (s : List ℕ) → Onward s 0 0 noChart
-begin s = record { fuel = length s + 1; enough = omega arith; same = refl; steps = omega arith; blocks = omega arith }
+begin s = record { fuel = length s + 1; enough = omega arith; same = refl }
 
 record Turn (s : List ℕ) (at before : ℕ) (c : Chart) : Type 0 where
   fuel : ℕ
@@ -103,11 +87,8 @@ module _ (s : List ℕ) (at before : ℕ) (c : Chart) where
         pub onward : m ≡ 0 → (x : Body) → b ≡ x → Onward s (p + n) k (withBody c x)
         onward z x g =
             let d = f .headed in
-            let zero-here : numberIn c b ≡ 0 = sym h ∙ z in
             record {
               fuel = turn .fuel;
               enough = shorter (length s) at (lengthAt s at) p n (turn .fuel) (f .place) (f .size) (d .whole) (turn .enough);
-              same = rw g at (rw (eq-eqb _ 0 zero-here) at taken-here);
-              steps = more-steps c x (rw g at zero-here) (o .steps);
-              blocks = more-blocks c x (rw g at zero-here) (o .blocks);
+              same = rw g at (rw (eq-eqb _ 0 (sym h ∙ z)) at taken-here);
             }

@@ -10,9 +10,9 @@ use lib.ListN.{length, take}
 use lib.Seq.{length-take-le, take-all, getD-take}
 use lib.Dec.{eqb, leb}
 use borrow.Author.Tests.{leb-true, leb-false, le-leb, lt-leb}
+use Rattle.chart.specs.declared.chart.Chart.{Chart}
 use Rattle.reader.specs.Numbers.{le}
 use Rattle.reader.specs.Reading.{readChart}
-use Rattle.reader.specs.declared.chart.Chart.{Chart}
 use Rattle.run.specs.Run.{noRun}
 use Rattle.run.specs.declared.run.Run.{Run}
 use Rattle.cycle.specs.Cycling.{startOf, cycleOf}

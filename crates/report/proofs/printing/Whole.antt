@@ -7,9 +7,9 @@ use native.Mathlib.Omega.{arith}
 use lib.ListN.{length}
 use lib.Dec.{eqb}
 use borrow.Author.Tests.{ne-eqb, eqb-true, eqb-false}
-use Rattle.reader.specs.Held.{chartCode}
+use Rattle.chart.specs.Held.{chartCode}
+use Rattle.chart.specs.declared.chart.Chart.{Chart}
 use Rattle.reader.specs.Reading.{readChart}
-use Rattle.reader.specs.declared.chart.Chart.{Chart}
 use Rattle.reader.proofs.reading.Accepted.{read-accepted}
 use Rattle.run.specs.Run.{noRun}
 use Rattle.run.specs.Belongs.{belongs}

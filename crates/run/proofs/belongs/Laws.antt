@@ -9,8 +9,8 @@ use Rattle.sets.specs.Sets.{Below}
 use Rattle.sets.proofs.Loops.{and-true}
 use Rattle.sets.proofs.Below.{below-zero}
 use Rattle.sets.proofs.Members.{below-lt}
-use Rattle.reader.specs.declared.chart.Chart.{Chart}
-use Rattle.reader.proofs.held.Sound.{Sound}
+use Rattle.chart.specs.declared.chart.Chart.{Chart}
+use Rattle.chart.proofs.held.Sound.{Sound}
 use Rattle.run.specs.Run.{noRun}
 use Rattle.run.specs.Belongs.{countersFit, timersFit, belongs}
 use Rattle.run.specs.declared.run.Run.{Run}

@@ -8,8 +8,8 @@ use Rattle.sets.specs.Sets.{has, Below, union, minus, size}
 use Rattle.sets.proofs.Below.{below-union, below-minus, has-union, has-minus}
 use Rattle.sets.proofs.Counts.{size-below, counted-same, counted-not}
 use borrow.Author.Tests.{ne-eqb}
-use Rattle.reader.specs.Held.{chartCode}
-use Rattle.reader.specs.declared.chart.Chart.{Chart}
+use Rattle.chart.specs.Held.{chartCode}
+use Rattle.chart.specs.declared.chart.Chart.{Chart}
 use Rattle.run.specs.Belongs.{belongs}
 use Rattle.run.specs.declared.run.Run.{Run}
 use Rattle.tally.specs.Tallying.{isPassed, isFailed, isNotRun, countsOf, refused, tallyOf}

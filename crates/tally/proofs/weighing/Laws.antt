@@ -10,9 +10,9 @@ use Rattle.sets.specs.Loops.{summed}
 use Rattle.sets.specs.Sets.{has}
 use Rattle.sets.proofs.Counts.{summed-more, summed-turn}
 use Rattle.fields.specs.Fields.{unless}
-use Rattle.reader.specs.Held.{chartCode}
-use Rattle.reader.specs.declared.chart.Chart.{Chart}
-use Rattle.reader.proofs.held.Each.{chart-most}
+use Rattle.chart.specs.Held.{chartCode}
+use Rattle.chart.specs.declared.chart.Chart.{Chart}
+use Rattle.chart.proofs.held.Each.{chart-most}
 use Rattle.cycle.specs.Moving.{initialSet, initialOf}
 use Rattle.tally.specs.Weighing.{weightIn, balanced, unbalancedIn, refused, weighed, weighOf}
 use Rattle.tally.specs.declared.weighing.Weighed.{Weighed}

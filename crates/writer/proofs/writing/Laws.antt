@@ -12,11 +12,11 @@ use lib.ListN.{length, getD, length-append}
 use borrow.Author.Tests.{le-leb, lt-leb, eq-eqb, ne-eqb}
 use Rattle.sets.specs.Bytes.{Put}
 use Rattle.sets.proofs.Bytes.{put-put, put-none, put-kept}
+use Rattle.chart.specs.Held.{chartCode}
+use Rattle.chart.specs.declared.chart.Chart.{Chart}
 use Rattle.reader.specs.Framing.{recordBytes}
 use Rattle.reader.specs.Bodies.{recordOf}
-use Rattle.reader.specs.Held.{chartCode}
 use Rattle.reader.specs.declared.bodies.Body.{Body}
-use Rattle.reader.specs.declared.chart.Chart.{Chart}
 use Rattle.writer.specs.Writing.{stepIn, actionIn, transitionIn, blockIn, caseIn, joined, records, stepRecords, actionRecords, transitionRecords, blockRecords, caseRecords, fileOf, fileLength, writeCode, wrote, refused, writeChart}
 use Rattle.writer.specs.declared.writing.Writing.{Writing}
 

@@ -3,7 +3,7 @@ use mathlib.Core.Path.{refl, sym, _∙_}
 use lib.ListN.{length}
 use denote.Ref.{now}
 use borrow.Author.Needs.{needs}
-use Rattle.reader.specs.declared.chart.Chart.{Chart}
+use Rattle.chart.specs.declared.chart.Chart.{Chart}
 use Rattle.cycle.specs.Cycling.{chartOf, cycled, cycleOf}
 use Rattle.cycle.proofs.cycling.Laws.{refused-by, untouched, together, passed, moves-on}
 use Rattle.cycle.proofs.cycling.cycle_on.Statement.{statement}

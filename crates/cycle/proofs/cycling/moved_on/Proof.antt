@@ -2,8 +2,8 @@
 use Prim.Native.Nat.{_^_, _<_}
 use denote.Ref.{now}
 use borrow.Author.Needs.{needs}
-use Rattle.reader.specs.declared.chart.Chart.{Chart}
-use Rattle.reader.proofs.held.Sound.{Sound, sound}
+use Rattle.chart.specs.declared.chart.Chart.{Chart}
+use Rattle.chart.proofs.held.Sound.{Sound, sound}
 use Rattle.run.proofs.belongs.Laws.{Own, own, actions-fit}
 use Rattle.cycle.specs.Cycling.{chartOf, cycled}
 use Rattle.cycle.proofs.cycling.Kept.{actions-below}

@@ -4,8 +4,8 @@ use native.Mathlib.Omega.{arith}
 use lib.ListN.{length}
 use denote.Ref.{now}
 use Rattle.sets.proofs.Below.{below-zero}
-use Rattle.reader.specs.Held.{chartCode}
-use Rattle.reader.proofs.held.Sound.{Sound, sound}
+use Rattle.chart.specs.Held.{chartCode}
+use Rattle.chart.proofs.held.Sound.{Sound, sound}
 use Rattle.run.specs.Run.{noRun}
 use Rattle.run.proofs.belongs.Laws.{actions-fit}
 use Rattle.cycle.specs.Cycling.{refused, startCode, started}

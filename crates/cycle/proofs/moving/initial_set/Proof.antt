@@ -6,7 +6,7 @@ use borrow.Author.Needs.{needs}
 use native.Mathlib.Nat.{le-antisymm}
 use Rattle.sets.specs.Sets.{collect}
 use Rattle.sets.proofs.Members.{collect-start, collect-turn}
-use Rattle.reader.specs.Held.{initialAt}
+use Rattle.chart.specs.Held.{initialAt}
 use Rattle.cycle.specs.Moving.{initialSet}
 use Rattle.cycle.proofs.moving.initial_set.Statement.{statement}
 use Rattle.cycle.proofs.moving.initial_set.Tie as tie

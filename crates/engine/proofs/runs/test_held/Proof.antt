@@ -4,7 +4,7 @@ use mathlib.Core.Path.{_≡_, refl, ap, _∙_}
 use native.Mathlib.Omega.{arith}
 use borrow.Author.Needs.{needs}
 use Rattle.sets.proofs.Counts.{summed-start, summed-turn}
-use Rattle.reader.specs.Held.{chartCode}
+use Rattle.chart.specs.Held.{chartCode}
 use Rattle.engine.specs.Runs.{altered, testsOf}
 use Rattle.engine.proofs.Laws.{altered-again}
 use Rattle.engine.proofs.runs.test_held.Statement.{statement}

@@ -43,9 +43,9 @@ use denote.Triple.Spec.{Meets, tripleOf}
 use denote.Triple.Table.{entered, cited}
 use denote.Triple.Walked.{says, Stays, stay-none, gave-slice, walkOf, goes-none, goes-gave-slice, Walks, ends-at, walked, walk-meets}
 use denote.Exit.{yes}
-use Rattle.reader.specs.declared.chart.Chart.{Chart}
-use Rattle.reader.proofs.chart.Chart as G
-use Rattle.reader.proofs.chart.Chart.Laws as G′
+use Rattle.chart.specs.declared.chart.Chart.{Chart}
+use Rattle.chart.proofs.chart.Chart as G
+use Rattle.chart.proofs.chart.Chart.Laws as G′
 use Rattle.run.specs.declared.run.Run.{Run}
 use Rattle.run.proofs.run.Run as T
 use Rattle.run.proofs.run.Run.Laws as T′

@@ -89,7 +89,7 @@ add-ended : tie.Need-add-ended Inv-loop μ-loop
 add-ended c = let e = over c in omega (arith, e .1 .begins)
 
 ended-requires : tie.Need-ended-requires Inv-loop μ-loop
-ended-requires c κs = let o = c .before .before .before .loop .inv in (o .steps, o .blocks)
+ended-requires c κs = search needs
 
 returns-2 : tie.Need-returns-2 Inv-loop μ-loop
 returns-2 c =

@@ -3,8 +3,8 @@ use mathlib.Core.Bool.{true}
 use mathlib.Core.Path.{_≡_, sym, _∙_}
 use borrow.Author.Needs.{needs}
 use borrow.Author.Tests.{not-true, not-false}
-use Rattle.reader.specs.Held.{chartCode}
-use Rattle.reader.proofs.held.Sound.{sound}
+use Rattle.chart.specs.Held.{chartCode}
+use Rattle.chart.proofs.held.Sound.{sound}
 use Rattle.run.specs.Belongs.{belongs}
 use Rattle.run.proofs.belongs.Laws.{Own, own}
 use Rattle.tally.proofs.tallying.Laws.{passed-counted, failed-counted, ran-fits, notrun-counted, chart-refused, run-refused, accepted}

@@ -5,8 +5,8 @@ use native.Mathlib.Omega.{arith}
 use lib.ListN.{length}
 use denote.Ref.{now}
 use borrow.Author.Needs.{needs}
-use Rattle.reader.specs.Held.{chartCode}
-use Rattle.reader.proofs.held.Sound.{Sound, sound}
+use Rattle.chart.specs.Held.{chartCode}
+use Rattle.chart.proofs.held.Sound.{Sound, sound}
 use Rattle.tally.specs.Weighing.{unbalancedIn}
 use Rattle.tally.proofs.weighing.Laws.{chart-refused, weights-refused, balance-refused, accepted, initial-whole}
 use Rattle.tally.proofs.weighing.weigh.Statement.{statement}

@@ -6,9 +6,9 @@ use native.Mathlib.Omega.{arith}
 use lib.ListN.{length}
 use denote.Ref.{now}
 use borrow.Author.Needs.{needs}
-use Rattle.reader.specs.Held.{chartCode}
-use Rattle.reader.specs.declared.chart.Chart.{Chart}
-use Rattle.reader.proofs.held.Sound.{Sound, sound}
+use Rattle.chart.specs.Held.{chartCode}
+use Rattle.chart.specs.declared.chart.Chart.{Chart}
+use Rattle.chart.proofs.held.Sound.{Sound, sound}
 use Rattle.writer.specs.Writing.{fileOf}
 use Rattle.writer.proofs.writing.Laws.{Passed, passed-kept, passed-room, passed-turn, passed-all, steps-length, actions-length, transitions-length, blocks-length, cases-length, piece, file-joined, file-length, file-start, chart-refused, too-few, written}
 use Rattle.writer.proofs.writing.write_chart.Statement.{statement}

@@ -1,0 +1,91 @@
+-- The limits hold or the answer is 4; then by its callees' statements, the last call first.
+use mathlib.Core.Path.{sym, _∙_}
+use borrow.Author.Tests.{not-true, not-false}
+use Rattle.chart.specs.Held.{heldCode}
+use Rattle.chart.proofs.held.Laws.{Limits, limits}
+use borrow.Author.Needs.{needs}
+use Rattle.chart.proofs.held.held_code.Statement.{statement}
+use Rattle.chart.proofs.held.held_code.Tie as tie
+
+kept : (c : tie.Else1) → Limits (c .before .before .args .steps) (c .before .before .args .actions) (c .before .before .args .transitions) (c .before .before .args .blocks) (c .before .before .args .cases)
+kept c = limits _ _ _ _ _ (sym (c .before .limits-fit .ensures) ∙ not-false _ (c .if1 .left))
+
+limits-fit-requires : tie.Need-limits-fit-requires
+limits-fit-requires c κs = search needs
+
+returns : tie.Need-returns
+unfolding heldCode
+returns c = rw (sym (c .before .limits-fit .ensures) ∙ not-true _ (c .if1 .taken))
+
+steps-code-requires : tie.Need-steps-code-requires
+steps-code-requires c κs = kept c .steps
+
+actions-code-requires : tie.Need-actions-code-requires
+actions-code-requires c κs = kept (c .before) .actions
+
+transitions-code-requires : tie.Need-transitions-code-requires
+transitions-code-requires c κs = kept (c .before .before) .transitions
+
+blocks-code-requires : tie.Need-blocks-code-requires
+blocks-code-requires c κs = let k = kept (c .before .before .before) in (k .blocks, k .steps, k .actions)
+
+cases-code-requires : tie.Need-cases-code-requires
+cases-code-requires c κs = let k = kept (c .before .before .before .before) in (k .cases, k .steps, k .actions)
+
+closing-code-requires : tie.Need-closing-code-requires
+closing-code-requires c κs = search needs
+
+or-else-requires : tie.Need-or-else-requires
+or-else-requires c κs = search needs
+
+or-else-requires-2 : tie.Need-or-else-requires-2
+or-else-requires-2 c κs = search needs
+
+or-else-requires-3 : tie.Need-or-else-requires-3
+or-else-requires-3 c κs = search needs
+
+or-else-requires-4 : tie.Need-or-else-requires-4
+or-else-requires-4 c κs = search needs
+
+or-else-requires-5 : tie.Need-or-else-requires-5
+or-else-requires-5 c κs = search needs
+
+returns-2 : tie.Need-returns-2
+unfolding heldCode
+returns-2 c =
+    let closing = c .before .before .before .before .before in
+    let transitions = closing .before .before .before in
+    let limited = transitions .before .before .before in
+    rw (
+      sym (limited .before .limits-fit .ensures) ∙ not-false _ (limited .if1 .left),
+      c .or-else5 .ensures,
+      c .before .or-else4 .ensures,
+      c .before .before .or-else3 .ensures,
+      c .before .before .before .or-else2 .ensures,
+      c .before .before .before .before .or-else .ensures,
+      closing .closing-code .ensures,
+      closing .before .cases-code .ensures,
+      closing .before .before .blocks-code .ensures,
+      transitions .transitions-code .ensures,
+      transitions .before .actions-code .ensures,
+      transitions .before .before .steps-code .ensures,
+    )
+
+pub held-code-spec : {M : Type 1} → statement M
+held-code-spec =
+    tie.close
+    (tie.spec
+    limits-fit-requires
+    returns
+    steps-code-requires
+    actions-code-requires
+    transitions-code-requires
+    blocks-code-requires
+    cases-code-requires
+    closing-code-requires
+    or-else-requires
+    or-else-requires-2
+    or-else-requires-3
+    or-else-requires-4
+    or-else-requires-5
+    returns-2)

@@ -1,0 +1,61 @@
+// A chart as it is held: five counts, and a table for each field of each kind, with the values of the file.
+ghost use mathlib.Core.Path.{_≡_};
+ghost use Prim.Native.Nat.{_<_};
+ghost use Rattle.chart.specs.Chart.{noChart};
+
+pub struct Chart {
+    pub steps: usize,
+    pub actions: usize,
+    pub transitions: usize,
+    pub blocks: usize,
+    pub cases: usize,
+    pub initial: [u8; 64],
+    pub output: [u8; 32],
+    pub value: [i32; 32],
+    pub sources: [u64; 64],
+    pub targets: [u64; 64],
+    pub on: [u64; 64],
+    pub off: [u64; 64],
+    pub wait: [u32; 64],
+    pub blockstep: [u8; 256],
+    pub blockaction: [u8; 256],
+    pub qualifier: [u8; 256],
+    pub duration: [u32; 256],
+    pub casestep: [u8; 64],
+    pub signal: [u8; 64],
+    pub expected: [u8; 64],
+}
+
+pub fn no_chart() -> Chart
+    ensures { λ r. ⌜ r ≡ noChart ⌝ }
+{
+    Chart {
+        steps: 0,
+        actions: 0,
+        transitions: 0,
+        blocks: 0,
+        cases: 0,
+        initial: [0; 64],
+        output: [0; 32],
+        value: [0; 32],
+        sources: [0; 64],
+        targets: [0; 64],
+        on: [0; 64],
+        off: [0; 64],
+        wait: [0; 64],
+        blockstep: [0; 256],
+        blockaction: [0; 256],
+        qualifier: [0; 256],
+        duration: [0; 256],
+        casestep: [0; 64],
+        signal: [0; 64],
+        expected: [0; 64],
+    }
+}
+
+// A byte that names an entry of a table.
+pub fn index_of(x: u8) -> usize
+    ensures { λ r. ⌜ (r ≡ x) × (r < 256) ⌝ }
+{
+    x as usize
+}

@@ -1,0 +1,11 @@
+// The chart as it is held, and the test of a chart that a caller held (document 01, "Numbers of refusal").
+pub mod chart;
+pub mod codes;
+pub mod held;
+
+pub use chart::Chart;
+pub use chart::index_of;
+pub use chart::no_chart;
+pub use held::chart_code;
+pub use held::closing_code;
+pub use held::held_code;
