@@ -1,2 +1,3 @@
 pub mod Chart
 pub mod Held
+pub mod Initial

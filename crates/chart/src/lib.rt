@@ -1,7 +1,8 @@
-// The chart as it is held, and the test of a chart that a caller held (document 01, "Numbers of refusal").
+// The chart as it is held, the test of a chart that a caller held (document 01, "Numbers of refusal"), and its initial steps.
 pub mod chart;
 pub mod codes;
 pub mod held;
+pub mod initial;
 
 pub use chart::Chart;
 pub use chart::index_of;
@@ -9,3 +10,4 @@ pub use chart::no_chart;
 pub use held::chart_code;
 pub use held::closing_code;
 pub use held::held_code;
+pub use initial::initial_of;

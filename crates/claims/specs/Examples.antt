@@ -14,6 +14,7 @@ use Rattle.sets.specs.Sets.{has, collect}
 use Rattle.fields.specs.Fields.{L, D, SD, SL, transitionCode}
 use Rattle.chart.specs.Chart.{noChart, withStep, withAction, withTransition, withBlock}
 use Rattle.chart.specs.Held.{stepsCode, actionsCode, transitionsCode, blocksCode, casesCode, someInitial, timedFor, timedTwice, heldCode}
+use Rattle.chart.specs.Initial.{initialSet}
 use Rattle.chart.specs.declared.chart.Chart.{Chart}
 use Rattle.reader.specs.Framing.{recordNumber}
 use Rattle.reader.specs.Bodies.{bodyAt}
@@ -23,7 +24,7 @@ use Rattle.choice.specs.Choice.{chosen}
 use Rattle.acting.specs.Acting.{request, ripens, asked, acted}
 use Rattle.run.specs.declared.run.Run.{Run}
 use Rattle.cycle.specs.Time.{elapsed}
-use Rattle.cycle.specs.Moving.{marksOf, initialSet}
+use Rattle.cycle.specs.Moving.{marksOf}
 use Rattle.cycle.specs.Outputs.{first, outputsOf}
 use Rattle.cycle.specs.Cycling.{startOf, cycleOf, outputsAfter}
 use Rattle.cycle.specs.declared.cycling.Cycled.{Cycled}

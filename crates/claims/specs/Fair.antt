@@ -9,12 +9,13 @@ use Rattle.sets.proofs.Loops.{else-zero}
 use Rattle.sets.proofs.Members.{has-zero}
 use Rattle.fields.specs.Fields.{unless}
 use Rattle.chart.specs.Held.{chartCode}
+use Rattle.chart.specs.Initial.{initialSet}
 use Rattle.chart.specs.declared.chart.Chart.{Chart}
 use Rattle.chart.proofs.held.Sound.{sound}
 use Rattle.run.specs.Run.{noRun}
 use Rattle.run.specs.declared.run.Run.{Run}
 use Rattle.cycle.specs.Time.{elapsed, grownCounts}
-use Rattle.cycle.specs.Moving.{signalsOf, initialSet}
+use Rattle.cycle.specs.Moving.{signalsOf}
 use Rattle.cycle.specs.Cycling.{refused, startCode, cycleCode, started, startOf, choiceOf, cycled}
 use Rattle.cycle.specs.declared.cycling.Cycled.{Cycled}
 use Rattle.claims.specs.Moves.{among, chosen-is, moved}

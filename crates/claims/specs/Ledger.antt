@@ -11,10 +11,10 @@ use Rattle.sets.specs.Loops.{summed, counted}
 use Rattle.sets.specs.Sets.{has}
 use Rattle.sets.proofs.Members.{has-collect}
 use Rattle.chart.specs.Held.{initialAt}
+use Rattle.chart.specs.Initial.{initialSet}
 use Rattle.chart.specs.declared.chart.Chart.{Chart}
 use Rattle.run.specs.declared.run.Run.{Run}
 use Rattle.cycle.specs.Cycling.{startOf}
-use Rattle.cycle.specs.Moving.{initialSet}
 use Rattle.claims.specs.Fair.{fair, begins}
 use Rattle.claims.specs.Moves.{among}
 use Rattle.claims.specs.Runs.{Call, answer, after, listed, history, one, howMany, arrivals, departures, begun}

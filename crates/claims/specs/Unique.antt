@@ -14,8 +14,9 @@ use Rattle.fields.specs.Fields.{timed, unless, stepFits, actionFits, transition
 use Rattle.fields.proofs.Unique.{is-timed-unique, or-else-unique, unless-unique, step-fits-unique, action-fits-unique, transition-code-unique, block-fits-unique, case-fits-unique}
 use Rattle.chart.specs.Chart.{noChart}
 use Rattle.chart.specs.Held.{closingCode, heldCode, chartCode}
+use Rattle.chart.specs.Initial.{initialOf}
 use Rattle.chart.specs.declared.chart.Chart.{Chart}
-use Rattle.chart.proofs.Unique.{no-chart-unique, index-of-unique, closing-code-unique, held-code-unique, chart-code-unique}
+use Rattle.chart.proofs.Unique.{no-chart-unique, index-of-unique, closing-code-unique, held-code-unique, chart-code-unique, initial-of-unique}
 use Rattle.reader.specs.Numbers.{leFrom}
 use Rattle.reader.specs.Framing.{Answers}
 use Rattle.reader.specs.Reading.{readChart}
@@ -39,10 +40,9 @@ use Rattle.run.specs.declared.run.ActionTimer.{ActionTimer}
 use Rattle.run.specs.declared.run.Run.{Run}
 use Rattle.run.proofs.Unique.{belongs-unique, counter-longer-unique, timer-longer-unique, no-run-unique}
 use Rattle.cycle.specs.Time.{elapsed}
-use Rattle.cycle.specs.Moving.{initialOf}
 use Rattle.cycle.specs.Cycling.{startOf, cycleOf, outputsAfter, cycleOn}
 use Rattle.cycle.specs.declared.cycling.Cycled.{Cycled}
-use Rattle.cycle.proofs.Unique.{start-unique, cycle-unique, cycle-on-unique, initial-of-unique, elapsed-unique}
+use Rattle.cycle.proofs.Unique.{start-unique, cycle-unique, cycle-on-unique, elapsed-unique}
 use Rattle.trace.specs.Tracing.{callAt, numberOf, traceNumber}
 use Rattle.trace.specs.declared.tracing.Call.{Call}
 use Rattle.trace.proofs.Unique.{call-at-unique}
@@ -96,7 +96,7 @@ pub record FieldsUnique : Type 0 where
   pub block-fits : (steps actions step action qualifier duration : ℕ) → One (λ (r : Bool). r ≡ blockFits steps actions step action qualifier duration)
   pub case-fits : (steps actions step signal expected : ℕ) → One (λ (r : Bool). r ≡ caseFits steps actions step signal expected)
 
--- chart/src: chart, held
+-- chart/src: chart, held, initial
 pub record ChartUnique : Type 0 where
   pub no-chart : One (λ (r : Chart). r ≡ noChart)
   pub index-of : (x : ℕ) → One (λ (r : ℕ). (r ≡ x) × (r < 256))
@@ -104,6 +104,7 @@ pub record ChartUnique : Type 0 where
   pub held-code : (steps actions transitions blocks cases : ℕ) (initial output sources targets on off wait blockstep blockaction qualifier duration casestep signal expected : List ℕ)
       → One (λ (r : ℕ). r ≡ heldCode steps actions transitions blocks cases initial output sources targets on off wait blockstep blockaction qualifier duration casestep signal expected)
   pub chart-code : (chart : Chart) → One (λ (r : ℕ). r ≡ chartCode chart)
+  pub initial-of : (n : ℕ) (initial : List ℕ) → One (λ (r : ℕ). r ≡ initialOf n initial)
 
 -- reader/src: framing, numbers, reading
 pub record ReaderUnique : Type 0 where
@@ -141,7 +142,6 @@ pub record CycleUnique : Type 0 where
   pub cycle : (chart : Chart) (run : Run) (clock inputs : ℕ) (outputs : List ℤ)
       → Both (λ (r : Cycled) (exit : List ℤ). (r ≡ cycleOf chart run clock inputs (length outputs)) × (exit ≡ outputsAfter chart r outputs))
   pub cycle-on : (lent : Chart) (run : Run) (clock inputs : ℕ) (outputs : List ℤ) → One (λ (r : Cycled × List ℤ). r ≡ cycleOn lent run clock inputs outputs)
-  pub initial-of : (n : ℕ) (initial : List ℕ) → One (λ (r : ℕ). r ≡ initialOf n initial)
   pub elapsed : (last new : ℕ) → One (λ (r : ℕ). r ≡ elapsed last new)
 
 -- trace/src: tracing
@@ -212,6 +212,7 @@ unique = record {
     closing-code = closing-code-unique;
     held-code = held-code-unique;
     chart-code = chart-code-unique;
+    initial-of = initial-of-unique;
   };
   reader = record {
     record-at = record-at-unique;
@@ -234,7 +235,6 @@ unique = record {
     start = λ chart clock outputs r q f g a b. start-unique chart clock r q outputs f g (a .0) (b .0) (a .1) (b .1);
     cycle = λ chart run clock inputs outputs r q f g a b. cycle-unique chart run clock inputs r q outputs f g (a .0) (b .0) (a .1) (b .1);
     cycle-on = cycle-on-unique;
-    initial-of = initial-of-unique;
     elapsed = elapsed-unique;
   };
   trace = record { call-at = call-at-unique };

@@ -14,10 +14,10 @@ use Rattle.sets.proofs.Loops.{else-zero, first-zero}
 use Rattle.sets.proofs.Counts.{summed-same}
 use Rattle.fields.specs.Fields.{unless}
 use Rattle.chart.specs.Held.{chartCode}
+use Rattle.chart.specs.Initial.{initialSet}
 use Rattle.chart.specs.declared.chart.Chart.{Chart}
 use Rattle.run.specs.declared.run.Run.{Run}
 use Rattle.cycle.specs.Cycling.{startOf}
-use Rattle.cycle.specs.Moving.{initialSet}
 use Rattle.cycle.specs.declared.cycling.Cycled.{Cycled}
 use Rattle.tally.specs.Weighing.{weight, weightIn, balanced, unbalanced, unbalancedIn, weighCode, refused, weighOf}
 use Rattle.tally.specs.declared.weighing.Weighed.{Weighed}

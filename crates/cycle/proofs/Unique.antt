@@ -8,15 +8,11 @@ use Rattle.sets.proofs.Unique.{one-answer}
 use Rattle.chart.specs.declared.chart.Chart.{Chart}
 use Rattle.run.specs.declared.run.Run.{Run}
 use Rattle.cycle.specs.Time.{elapsed}
-use Rattle.cycle.specs.Moving.{initialOf}
 use Rattle.cycle.specs.Cycling.{startOf, cycleOf, outputsAfter, cycleOn}
 use Rattle.cycle.specs.declared.cycling.Cycled.{Cycled}
 
 pub elapsed-unique : (last new r q : ℕ) → r ≡ elapsed last new → q ≡ elapsed last new → r ≡ q
 elapsed-unique last new r q = one-answer
-
-pub initial-of-unique : (n : ℕ) (initial : List ℕ) (r q : ℕ) → r ≡ initialOf n initial → q ≡ initialOf n initial → r ≡ q
-initial-of-unique n initial r q = one-answer
 
 -- the answer, and the lent outputs with it
 both : (c : Chart) (x r q : Cycled) (out f g : List ℤ) → r ≡ x → q ≡ x → f ≡ outputsAfter c r out → g ≡ outputsAfter c q out → (r ≡ q) × (f ≡ g)

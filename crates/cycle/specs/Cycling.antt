@@ -9,6 +9,7 @@ use Rattle.sets.specs.Loops.{orElse}
 use Rattle.sets.specs.Sets.{union}
 use Rattle.fields.specs.Fields.{unless}
 use Rattle.chart.specs.Held.{chartCode}
+use Rattle.chart.specs.Initial.{initialSet}
 use Rattle.chart.specs.declared.chart.Chart.{Chart}
 use Rattle.choice.specs.Choice.{chosen}
 use Rattle.choice.specs.declared.Choice.{Choice}
@@ -20,7 +21,7 @@ use Rattle.run.specs.Belongs.{belongs}
 use Rattle.run.specs.declared.run.Run.{Run}
 use Rattle.cycle.specs.Time.{elapsed, grownCounts, grownTimes}
 use Rattle.cycle.specs.Choosing.{stepsOf}
-use Rattle.cycle.specs.Moving.{settledCounters, settledTimers, signalsOf, marksOf, initialSet}
+use Rattle.cycle.specs.Moving.{settledCounters, settledTimers, signalsOf, marksOf}
 use Rattle.cycle.specs.Outputs.{outputsOf}
 use Rattle.cycle.specs.declared.moving.Marks.{Marks}
 use Rattle.cycle.specs.declared.cycling.Cycled.{Cycled}

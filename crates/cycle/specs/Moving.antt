@@ -4,10 +4,9 @@ use Prim.Native.Nat.{ℕ, _-_}
 use mathlib.Core.List.{List}
 use mathlib.Core.Bool.{Bool, Bool·beq, _&&_, not, cond}
 use lib.ListN.{getD}
-use lib.Dec.{eqb, ltb, leb}
+use lib.Dec.{eqb, ltb}
 use Rattle.sets.specs.Loops.{table}
 use Rattle.sets.specs.Sets.{has, collect}
-use Rattle.chart.specs.Held.{initialAt}
 use Rattle.acting.specs.Acting.{keptCount}
 use Rattle.run.specs.Run.{counter, timer}
 use Rattle.run.specs.declared.run.StepCounter.{StepCounter}
@@ -38,11 +37,3 @@ marksOf n step signal expected left signals = record {
   good = collect (λ i. goodAt (getD step i 0) (getD signal i 0) (getD expected i 0) left signals) n;
   bad = collect (λ i. badAt (getD step i 0) (getD signal i 0) (getD expected i 0) left signals) n;
 }
-
--- the initial steps
-unfoldable pub initialSet : ℕ → List ℕ → ℕ
-initialSet n initial = collect (initialAt initial) n
-
--- the same of any number: none if there are more than 64
-abbrev pub initialOf : ℕ → List ℕ → ℕ
-initialOf n initial = cond (leb n 64) (initialSet n initial) 0

@@ -85,7 +85,7 @@ pub fn start(chart: Chart, clock: u32, outputs: &mut [i32]) -> Cycled
     if code != 0 {
         return refused(code, no_run());
     }
-    let initial = moving::initial_set(chart.steps, &chart.initial);
+    let initial = chart::initial_of(chart.steps, &chart.initial);
     let counts = [0u32; 64];
     let times = [0u32; 32];
     let steps = Steps {

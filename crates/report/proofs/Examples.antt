@@ -6,13 +6,14 @@ use Rattle.sets.specs.Loops.{all, some, summed, firstCode, tableFrom, turns}
 use Rattle.sets.specs.Sets.{collect}
 use Rattle.fields.specs.Fields.{transitionCode}
 use Rattle.chart.specs.Held.{stepsCode, actionsCode, transitionsCode, blocksCode, casesCode, someInitial, timedFor, timedTwice, heldCode}
+use Rattle.chart.specs.Initial.{initialSet}
 use Rattle.reader.specs.Framing.{recordNumber}
 use Rattle.reader.specs.Bodies.{bodyAt}
 use Rattle.reader.specs.Reading.{readFrom}
 use Rattle.reader.proofs.reading.Examples.{chartA}
 use Rattle.choice.specs.Choice.{chosen}
 use Rattle.acting.specs.Acting.{asked, acted}
-use Rattle.cycle.specs.Moving.{marksOf, initialSet}
+use Rattle.cycle.specs.Moving.{marksOf}
 use Rattle.trace.specs.Tracing.{callAt}
 use Rattle.report.specs.Lines.{text, hex, decimalFrom, decimal, acceptedLine, refusedLine, chartLine, traceLine, tallyLine}
 use Rattle.report.specs.Printing.{printedFrom, printedRun}

@@ -8,8 +8,8 @@ use Rattle.sets.specs.Loops.{orElse, firstCode, summed}
 use Rattle.sets.specs.Sets.{has}
 use Rattle.fields.specs.Fields.{unless}
 use Rattle.chart.specs.Held.{chartCode}
+use Rattle.chart.specs.Initial.{initialSet}
 use Rattle.chart.specs.declared.chart.Chart.{Chart}
-use Rattle.cycle.specs.Moving.{initialSet}
 use Rattle.tally.specs.declared.weighing.Weighed.{Weighed}
 
 -- what the steps of a set weigh together, step k weighing w k

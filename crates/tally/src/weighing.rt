@@ -79,7 +79,7 @@ pub fn weigh(chart: Chart, weights: &[u16]) -> Weighed
     if first != 0 {
         return refused(UNBALANCED, first - 1);
     }
-    let initial = cycle::moving::initial_of(chart.steps, &chart.initial);
+    let initial = chart::initial_of(chart.steps, &chart.initial);
     Weighed {
         code: 0,
         transition: 0,

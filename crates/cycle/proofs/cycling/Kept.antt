@@ -14,6 +14,7 @@ use Rattle.sets.proofs.Members.{has-zero}
 use Rattle.sets.proofs.Below.{below-zero, below-collect, below-union, below-inter, below-minus, below-named, has-minus}
 use Rattle.fields.specs.Fields.{unless}
 use Rattle.chart.specs.Held.{chartCode}
+use Rattle.chart.specs.Initial.{initialSet}
 use Rattle.chart.specs.declared.chart.Chart.{Chart}
 use Rattle.chart.proofs.held.Sound.{Sound, sound}
 use Rattle.choice.specs.Choice.{ready, ripe, takes, choosingAt, noneTaken, chosen}
@@ -28,7 +29,7 @@ use Rattle.run.specs.declared.run.Run.{Run}
 use Rattle.run.proofs.belongs.Laws.{Own, own, is-own}
 use Rattle.cycle.specs.Time.{elapsed, grownCount, grownTime, grownCounts, grownTimes}
 use Rattle.cycle.specs.Choosing.{movedTo, stepsOf}
-use Rattle.cycle.specs.Moving.{settledCounters, settledTimers, marksOf, initialSet, signalsOf}
+use Rattle.cycle.specs.Moving.{settledCounters, settledTimers, marksOf, signalsOf}
 use Rattle.cycle.specs.Cycling.{refused, startCode, cycleCode, actedOn, startSteps, started, startOf, choiceOf, cycled, cycleOf}
 use Rattle.cycle.specs.declared.cycling.Cycled.{Cycled}
 use Rattle.cycle.proofs.cycling.Laws.{passed}

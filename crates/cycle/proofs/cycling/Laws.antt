@@ -14,6 +14,7 @@ use Rattle.sets.specs.Sets.{union}
 use Rattle.sets.proofs.Loops.{else-zero}
 use Rattle.fields.specs.Fields.{unless}
 use Rattle.chart.specs.Held.{chartCode}
+use Rattle.chart.specs.Initial.{initialSet}
 use Rattle.chart.specs.declared.chart.Chart.{Chart}
 use Rattle.chart.proofs.held.Sound.{Sound, fits}
 use Rattle.choice.specs.declared.Choice.{Choice}
@@ -24,7 +25,7 @@ use Rattle.run.specs.declared.run.StepCounter.{StepCounter}
 use Rattle.run.specs.declared.run.ActionTimer.{ActionTimer}
 use Rattle.run.specs.declared.run.Run.{Run}
 use Rattle.cycle.specs.Time.{elapsed, grownCounts, grownTimes}
-use Rattle.cycle.specs.Moving.{initialSet, settledCounters, settledTimers, signalsOf}
+use Rattle.cycle.specs.Moving.{settledCounters, settledTimers, signalsOf}
 use Rattle.cycle.specs.Choosing.{stepsOf}
 use Rattle.cycle.specs.Cycling.{Settles, refused, cycleCode, actedOn, started, choiceOf, marksAt, cycled, outputsAfter, answered, movedOn, cycleOn}
 use Rattle.cycle.specs.declared.moving.Marks.{Marks}

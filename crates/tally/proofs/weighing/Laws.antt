@@ -4,7 +4,7 @@ use mathlib.Core.Bool.{Bool, true, false, cond}
 use mathlib.Core.List.{List}
 use mathlib.Core.Path.{_≡_, refl, sym, ap, _∙_}
 use native.Mathlib.Omega.{arith}
-use borrow.Author.Tests.{le-leb, eq-eqb, ne-eqb}
+use borrow.Author.Tests.{eq-eqb, ne-eqb}
 use lib.ListN.{length, getD, List·getD-eq-default}
 use Rattle.sets.specs.Loops.{summed}
 use Rattle.sets.specs.Sets.{has}
@@ -13,7 +13,6 @@ use Rattle.fields.specs.Fields.{unless}
 use Rattle.chart.specs.Held.{chartCode}
 use Rattle.chart.specs.declared.chart.Chart.{Chart}
 use Rattle.chart.proofs.held.Each.{chart-most}
-use Rattle.cycle.specs.Moving.{initialSet, initialOf}
 use Rattle.tally.specs.Weighing.{weightIn, balanced, unbalancedIn, refused, weighed, weighOf}
 use Rattle.tally.specs.declared.weighing.Weighed.{Weighed}
 
@@ -73,7 +72,3 @@ module _ (c : Chart) (weights : List ℕ) (r : Weighed) where
 
   pub accepted : chartCode c ≡ 0 → length weights ≡ c .steps → unbalancedIn c weights ≡ 0 → r ≡ weighed c weights → r ≡ weighOf c weights
   accepted e l f h = h ∙ rw (e, eq-eqb _ _ l, f)
-
--- the initial steps are all there
-pub initial-whole : (n : ℕ) (initial : List ℕ) → n ≤ 64 → initialOf n initial ≡ initialSet n initial
-initial-whole n initial h = rw (le-leb n 64 h)

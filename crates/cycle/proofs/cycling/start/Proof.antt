@@ -6,6 +6,7 @@ use denote.Ref.{now}
 use Rattle.sets.proofs.Below.{below-zero}
 use Rattle.chart.specs.Held.{chartCode}
 use Rattle.chart.proofs.held.Sound.{Sound, sound}
+use Rattle.chart.proofs.initial.Laws.{initial-whole}
 use Rattle.run.specs.Run.{noRun}
 use Rattle.run.proofs.belongs.Laws.{actions-fit}
 use Rattle.cycle.specs.Cycling.{refused, startCode, started}
@@ -61,8 +62,8 @@ returns-2 c =
       untouched (a .t1) (c .refused2 .result) _ (c .before .no-run2 .result) (now (a .outputs)) (c .refused2 .ensures) z,
     )
 
-initial-set-requires : tie.Need-initial-set-requires
-initial-set-requires c κs = chart-sound (c .before .before) .limits .steps
+initial-of-requires : tie.Need-initial-of-requires
+initial-of-requires c κs = search needs
 
 settle-requires : tie.Need-settle-requires
 settle-requires c κs =
@@ -92,7 +93,7 @@ returns-3 c =
     let s = acting .settle .ensures in (
       accepted-by _ (started (a .t1) (a .clock)) (refused (startCode (a .t1) (length (now (a .outputs)))) noRun) _
           (sym (chart-zero held) ∙ enough _ _ (lent held .if1 .left))
-          (started-as (a .t1) (a .clock) _ (acting .settle .result) _ _ (initial .initial-set .ensures) (s .0) (c .before .before .settled-counters .ensures) (c .settled-timers .ensures)),
+          (started-as (a .t1) (a .clock) _ (acting .settle .result) _ _ (initial .initial-of .ensures ∙ initial-whole _ _ (chart-sound held .limits .steps)) (s .0) (c .before .before .settled-counters .ensures) (c .settled-timers .ensures)),
       s .1,
     )
 
@@ -107,7 +108,7 @@ start-spec =
     no-run-requires-2
     refused-requires-2
     returns-2
-    initial-set-requires
+    initial-of-requires
     settle-requires
     settled-counters-requires
     settled-timers-requires

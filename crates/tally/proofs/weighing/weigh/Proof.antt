@@ -7,8 +7,9 @@ use denote.Ref.{now}
 use borrow.Author.Needs.{needs}
 use Rattle.chart.specs.Held.{chartCode}
 use Rattle.chart.proofs.held.Sound.{Sound, sound}
+use Rattle.chart.proofs.initial.Laws.{initial-whole}
 use Rattle.tally.specs.Weighing.{unbalancedIn}
-use Rattle.tally.proofs.weighing.Laws.{chart-refused, weights-refused, balance-refused, accepted, initial-whole}
+use Rattle.tally.proofs.weighing.Laws.{chart-refused, weights-refused, balance-refused, accepted}
 use Rattle.tally.proofs.weighing.weigh.Statement.{statement}
 use Rattle.tally.proofs.weighing.weigh.Tie as tie
 

@@ -6,10 +6,10 @@ use borrow.Author.Needs.{needs}
 use native.Mathlib.Nat.{le-antisymm}
 use Rattle.sets.specs.Sets.{collect}
 use Rattle.sets.proofs.Members.{collect-start, collect-turn}
 use Rattle.chart.specs.Held.{initialAt}
-use Rattle.cycle.specs.Moving.{initialSet}
-use Rattle.cycle.proofs.moving.initial_set.Statement.{statement}
-use Rattle.cycle.proofs.moving.initial_set.Tie as tie
+use Rattle.chart.specs.Initial.{initialSet}
+use Rattle.chart.proofs.initial.initial_set.Statement.{statement}
+use Rattle.chart.proofs.initial.initial_set.Tie as tie
 
 abbrev Inv-loop : tie.InvT-loop
 Inv-loop n initial s₀ k₀ s k = (s ≡ collect (initialAt initial) k) × (k ≤ n)

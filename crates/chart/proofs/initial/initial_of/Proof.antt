@@ -1,8 +1,8 @@
 -- No more than 64, or none.
 use borrow.Author.Needs.{needs}
 use borrow.Author.Tests.{le-leb, lt-leb}
-use Rattle.cycle.proofs.moving.initial_of.Statement.{statement}
-use Rattle.cycle.proofs.moving.initial_of.Tie as tie
+use Rattle.chart.proofs.initial.initial_of.Statement.{statement}
+use Rattle.chart.proofs.initial.initial_of.Tie as tie
 
 returns : tie.Need-returns
 returns c = rw (lt-leb _ 64 (c .if1 .taken))
