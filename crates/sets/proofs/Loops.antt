@@ -111,6 +111,11 @@ pub some-turn : (p : ℕ → Bool) (k : ℕ) {any b : Bool} → any ≡ some p k
 unfolding some
 some-turn p k e h = rw (add-one, e, h)
 
+pub some-same : (p q : ℕ → Bool) (n : ℕ) → ((k : ℕ) → k < n → p k ≡ q k) → some p n ≡ some q n
+unfolding some
+some-same p q zero h = refl
+some-same p q (suc n) h = ap₂ _||_ (some-same p q n (λ k l. h k (omega arith))) (h n (omega arith))
+
 -- where p holds of none from m on, it is enough to look below m
 pub some-capped : (p : ℕ → Bool) (m n : ℕ) → ((k : ℕ) → m ≤ k → p k ≡ false) → some p (min n m) ≡ some p n
 unfolding some

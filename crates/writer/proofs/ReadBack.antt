@@ -1,7 +1,7 @@
 -- A chart's file is read back as the chart, as far as its counts reach: record after record, the chart so far is the first records of it.
 use Prim.Native.Nat.{ℕ, zero, suc, _+_, _-_, _≤_, _<_}
 use mathlib.Core.List.{List, [], _++_}
-use mathlib.Core.Bool.{Bool, true, false, _&&_, _||_, cond}
+use mathlib.Core.Bool.{Bool, true, false, _&&_, cond}
 use mathlib.Core.Path.{_≡_, refl, ap, ap₂, _∙_}
 use native.Mathlib.Numerals.{add-one}
 use native.Mathlib.Omega.{arith}
@@ -10,8 +10,8 @@ use lib.ListN.{length, getD, set, length-set}
 use lib.Seq.{getD-set-same, getD-set-other}
 use lib.Dec.{ltb, eqb}
 use borrow.Author.Tests.{lt-ltb, ltb-true, eqb-true, eqb-false}
-use Rattle.sets.specs.Loops.{some, tableFrom}
-use Rattle.sets.proofs.Loops.{bool-eq, first-zero, length-table, getD-table, is-table}
+use Rattle.sets.specs.Loops.{tableFrom}
+use Rattle.sets.proofs.Loops.{bool-eq, some-same, first-zero, length-table, getD-table, is-table}
 use Rattle.fields.specs.Fields.{timed, unless}
 use Rattle.chart.specs.Chart.{noChart}
 use Rattle.chart.specs.Held.{stepsCode, stepFitsAt, actionsCode, actionFitsAt, transitionsCode, transitionCodeAt, blocksCode, blockFitsAt, casesCode, caseFitsAt, initialAt, someInitial, timedFor, timedAgain, timedTwice, chartCode}
@@ -146,11 +146,6 @@ module _ (c : Chart) (t : Typed c) (z : Zero c) (l : Limits (c .steps) (c .actio
       (rw (up-more 0 64 i (c .casestep) k, up-more 0 64 i (c .signal) k, up-more 0 64 i (c .expected) k))
 
 -- ---- the end: the closing tests look only below the counts
-
-some-same : (p q : ℕ → Bool) (n : ℕ) → ((k : ℕ) → k < n → p k ≡ q k) → some p n ≡ some q n
-unfolding some
-some-same p q zero h = refl
-some-same p q (suc n) h = ap₂ _||_ (some-same p q n (λ k l. h k (omega arith))) (h n (omega arith))
 
 initial-same : (n : ℕ) (l : List ℕ) → n ≤ 64 → someInitial n (upTo 0 64 n l) ≡ someInitial n l
 unfolding someInitial
