@@ -1,6 +1,8 @@
 // A test of the writer: byte strings from standard input, each after its length in two bytes (the lesser first). Each is read, and written back
 // into as many lent bytes; its line is the reading's number if it is refused, else the writing's number, the length written, and whether the
 // lent bytes are the string.
+ghost use mathlib.Core.Bool.{true};
+ghost use mathlib.Core.Path.{_≡_};
 use reader::numbers;
 
 const MOST: usize = 65536;
@@ -18,7 +20,9 @@ fn fill(bytes: &mut [u8]) {
     }
 }
 
-fn is_same(a: &[u8], b: &[u8]) -> bool {
+fn is_same(a: &[u8], b: &[u8]) -> bool
+    ensures { λ r. ⌜ (r ≡ true → now (a .entry) ≡ now (b .entry)) × (now (a .entry) ≡ now (b .entry) → r ≡ true) ⌝ }
+{
     if a.len() != b.len() {
         return false;
     }
