@@ -377,7 +377,7 @@ static void mark(const struct chart *c, struct run *r, uint64_t left, uint64_t s
 	}
 }
 
-/* Paragraphs 4 to 6: the run has its new steps and counters, and timers that have grown. */
+/* Paragraphs 4 to 6, P by request (ii): the run has its new steps and counters, and timers that have grown. */
 static void settle(const struct chart *c, struct run *r, uint64_t entered, uint64_t left, int32_t *outputs)
 {
 	uint64_t active = r->active, reset = 0, set = 0, latch = 0, want = 0, ripe = 0;
@@ -391,7 +391,6 @@ static void settle(const struct chart *c, struct run *r, uint64_t entered, uint6
 		case S: set |= on << action; break;
 		case L: want |= (on & (count < duration)) << action; break;
 		case D: want |= (on & (count >= duration)) << action; break;
-		case P: want |= ((entered | left) >> step & 1) << action; break;
 		case SD:
 			latch |= on << action;
 			ripe |= (uint64_t)(r->timers[action] >= duration) << action;
@@ -401,7 +400,7 @@ static void settle(const struct chart *c, struct run *r, uint64_t entered, uint6
 			latch |= on << action;
 			ripe |= (uint64_t)(r->timers[action] < duration) << action;
 			break;
-		case P1: want |= (entered >> step & 1) << action; break;
+		case P: case P1: want |= (entered >> step & 1) << action; break;
 		case P0: want |= (left >> step & 1) << action; break;
 		}
 	}

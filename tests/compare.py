@@ -1,13 +1,14 @@
 #!/usr/bin/env python3
-"""The engine against a second implementation of document 01 and of request (i) (tests/second.rs), on random charts, traces and
-held images.
+"""The engine against a second implementation of document 01 and of requests (i) and (ii) (tests/second.rs), on random charts,
+traces and held images.
 
   tests/compare.py [--seed N] [--cases N]
 
 Run it after `rt check`, which builds the programs. bench_run prints one run for each of N random charts and traces, held_calls
 answers 5 N calls on random images and N writings of images with junk beyond their counts, read_charts reads 2 N faulty files, and
-write_back writes N files back; the second implementation does the same, and all that they write must be equal. A case depends on the seed and its own number alone. What the cases reached is counted from what was
-written, and a run that did not reach each thing in NEEDED fails, since its equal answers say nothing of that.
+write_back writes N files back; the second implementation does the same, and all that they write must be equal. A case depends on the
+seed and its own number alone. What the cases reached is counted from what was written, and a run that did not reach each thing in
+NEEDED fails, since its equal answers say nothing of that.
 """
 import argparse
 import os
@@ -34,7 +35,7 @@ RUN_NAMES = [name for name, _, _ in held.RUN]
 NEEDED = (
     [f"refused {code}" for code in range(1, 18)]
     + [f"{NAMES[q]} active" for q in range(11) if q != R] + [f"{NAMES[q]} not active" for q in TIMED + (P, P1)] + ["R resets"]
-    + ["P at entering", "P at leaving", "transitions taken", "forks taken", "joins taken", "two taken in one call"]
+    + ["P not active at leaving", "transitions taken", "forks taken", "joins taken", "two taken in one call"]
     + [f"{NAMES[q]} {when}" for q in TIMED for when in ("at its duration", "one ms before")]
     + ["taken at its wait", "not taken one ms before"]
     + [f"{name} {side}" for name, _, _ in held.CHART + held.RUN if name not in ("value", "clock") for side in ("at its limit", "above it")]
@@ -450,9 +451,10 @@ def count_actions(reached, image, before, after, was, activity):
         here, left, active = has(after, step), has(before, step) and not has(after, step), has(activity, action)
         if q == R:
             reached["R resets"] += here and has(was, action) and not active
-        elif alone[action] == 1 and (left if q == P0 else left or here if q == P else here):
+        elif alone[action] == 1 and (left if q == P0 else here):
             reached[f"{NAMES[q]} {'active' if active else 'not active'}"] += 1
-            reached[f"P at {'leaving' if left else 'entering'}"] += q == P and active
+        elif alone[action] == 1 and left and q == P:
+            reached["P not active at leaving"] += not active
 
 
 def count_tally(reached, counts):

@@ -4,8 +4,9 @@
   tests/run_cycles.py           write crates/run_cycles/stdin and stdout
   tests/run_cycles.py --check   say whether they are what this file says
 
-The lines come from a plain model of document 01's start and cycle; nothing here runs the engine. Every case also
-states facts derived from document 01 by hand, and nothing is written unless the model agrees with all of them.
+The lines come from a plain model of document 01's start and cycle, with P as request (ii) of document 02 has it; nothing here
+runs the engine. Every case also states facts derived from the documents by hand, and nothing is written unless the model agrees
+with all of them.
 Numbers 1 to 6 in the comments are the numbered rules under "One cycle".
 """
 import struct
@@ -151,8 +152,8 @@ def drives(b, run, entered, left):  # rule 5, one block; R, S and DS act through
         or (b.qualifier == D and here and run.counters[b.step] >= b.duration)
         or (b.qualifier == SD and latched and run.timers[b.action] >= b.duration)
         or (b.qualifier == SL and latched and run.timers[b.action] < b.duration)
-        or (b.qualifier in (P1, P) and b.step in entered)
-        or (b.qualifier in (P0, P) and b.step in left)
+        or (b.qualifier in (P1, P) and b.step in entered)  # P by document 02, request (ii)
+        or (b.qualifier == P0 and b.step in left)
     )
 
 
@@ -434,10 +435,13 @@ show("DS stays when its step is left", swing(1, block(1, 0, DS, 100)),
      activity=[{}, {}, {}, {0}, {0}, {0}], stored=[{}, {}, {}, {0}, {0}, {0}])
 show("DS, then R", path(1, block(1, 0, DS, 5), block(2, 0, R)), [(10, {0}), (15, {}), (20, {1})],
      activity=[{}, {}, {0}, {}], stored=[{}, {}, {0}, {}])
-# 5: P1 "and the step was entered", P0 "and the step was left", "P and either"; start: "active and entered, none left"
+# 5: P1 "and the step was entered", P0 "and the step was left"; document 02, request (ii): "P is now active only in the call that enters the
+# step, like P1"; start: "active and entered, none left"
 PULSES = swing(6, block(0, 0, P), block(0, 1, P1), block(0, 2, P0), block(1, 3, P), block(1, 4, P1), block(1, 5, P0))
 show("pulses", PULSES, [(10, {}), (20, {0}), (30, {}), (30, {}), (40, {1}), (50, {})],
-     activity=[{0, 1}, {}, {0, 2, 3, 4}, {}, {}, {0, 1, 3, 5}, {}])
+     activity=[{0, 1}, {}, {2, 3, 4}, {}, {}, {0, 1, 5}, {}])
+show("pulses in one call after the other", PULSES, [(10, {0}), (20, {1}), (30, {0})],
+     activity=[{0, 1}, {2, 3, 4}, {0, 1, 5}, {2, 3, 4}])
 show("pulses around a refused cycle", PULSES, [(60_001, {0}), (5, {})], code=[0, 11, 0], activity=[{0, 1}, {0, 1}, {}])
 # 5: "A reset action is inactive", whatever drives it; "Letting S win over R in one cycle"
 # Action q has qualifier q on step 0; step 1 resets them all, at start beside step 0 and at 20 ms as step 0 is left.

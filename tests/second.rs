@@ -1,8 +1,8 @@
 // A second engine for the chart, its cycle and its tally, written from document 01 alone, with the
-// writer of charts from request (i) of document 02. No other request of document 02 is followed.
-// Words in quotation marks above a function are sentences of document 01, or of request (i) where
-// that is said. A function that only serves the command line says so instead, since neither speaks
-// of that.
+// writer of charts from request (i) of document 02 and the rule for P from request (ii). No other
+// request of document 02 is followed. Words in quotation marks above a function are sentences of
+// document 01, or of request (i) or (ii) where that is said. A function that only serves the
+// command line says so instead, since none of them speaks of that.
 
 use std::collections::BTreeSet;
 use std::io::{Read, Write};
@@ -875,8 +875,9 @@ fn is_active(chart: &Chart, run: &Run, action: usize, entered: &Set, left: &Set)
 
 // "... or an active step has an N block, an L block with counter below its duration or a D block
 // with counter at or above it; or SD is latched with timer at or above its duration; or SL is
-// latched with timer below it; or P1 and the step was entered; or P0 and the step was left; or P
-// and either."
+// latched with timer below it; or P1 and the step was entered; or P0 and the step was left ..."
+// Request (ii), in the place of "or P and either": "P is now active only in the call that enters
+// the step, like P1."
 fn block_activates(run: &Run, block: &Block, q: Qualifier, entered: &Set, left: &Set) -> bool {
     let active = run.active.contains(&block.step);
     let counter = at(&run.step_counters, block.step);
@@ -892,7 +893,7 @@ fn block_activates(run: &Run, block: &Block, q: Qualifier, entered: &Set, left: 
         Qualifier::SL => latched && timer < block.duration,
         Qualifier::P1 => entered,
         Qualifier::P0 => left,
-        Qualifier::P => entered || left,
+        Qualifier::P => entered,
         Qualifier::R | Qualifier::S | Qualifier::DS => false,
     }
 }
@@ -1200,7 +1201,7 @@ fn tally_line(tally: &Tally) -> String {
 }
 
 // ---------------------------------------------------------------------------------------------
-// The command line (not spoken of in document 01 or in request (i))
+// The command line (not spoken of in document 01 or in requests (i) and (ii))
 // ---------------------------------------------------------------------------------------------
 
 // For the command line: one case of `print`, and what is printed for it.
@@ -2105,8 +2106,9 @@ fn check_latches(b: &mut Bench) {
     b.check("no block, no activity", seen(&none, 0, &[(1, 1)]).3 == 0);
 }
 
-// "or P1 and the step was entered; or P0 and the step was left; or P and either"; "Start makes the
-// initial steps active and entered, none left"
+// "or P1 and the step was entered; or P0 and the step was left"; "Start makes the initial steps
+// active and entered, none left"; request (ii): "P is now active only in the call that enters the
+// step, like P1."
 fn check_pulses(b: &mut Bench) {
     let actions = [action(0, 1), action(1, 1), action(2, 1)].concat();
     let blocks = [block(0, 0, 5, 0), block(0, 1, 9, 0), block(0, 2, 10, 0)].concat();
@@ -2114,13 +2116,28 @@ fn check_pulses(b: &mut Bench) {
     let held = held_of(&[step(1), step(0), actions, moves, blocks]);
     b.check("pulses at start", seen(&held, 0, &[]).3 == 3);
     b.check("pulses are over", seen(&held, 0, &[(0, 0)]).3 == 0);
-    b.check("pulses at leaving", seen(&held, 0, &[(0, 1)]).3 == 5);
+    b.check("pulses at leaving", seen(&held, 0, &[(0, 1)]).3 == 4);
     b.check("pulses after leaving", seen(&held, 0, &[(0, 1), (0, 0)]).3 == 0);
     b.check("pulses at entering", seen(&held, 0, &[(0, 1), (0, 2)]).3 == 3);
+    b.check("pulses at leaving again", seen(&held, 0, &[(0, 1), (0, 2), (0, 1)]).3 == 4);
     let blocks = [block(0, 0, 10, 0), block(1, 0, 1, 0)].concat();
     let away = transition(1, 2, 1, 0, 0);
     let held = held_of(&[step(1), step(0), action(0, 1), away, blocks]);
     b.check("a reset P0", seen(&held, 0, &[(0, 1)]) == (0, 1, 2, 0));
+    // Action 0 has P beside P0, action 1 has P beside P1, all on step 0.
+    let actions = [action(0, 1), action(1, 1)].concat();
+    let beside_p0 = [block(0, 0, 5, 0), block(0, 0, 10, 0)].concat();
+    let beside_p1 = [block(0, 1, 5, 0), block(0, 1, 9, 0)].concat();
+    let moves = [transition(1, 2, 1, 0, 0), transition(2, 1, 2, 0, 0)].concat();
+    let held = held_of(&[step(1), step(0), actions, moves, beside_p0, beside_p1]);
+    b.check("P beside others at start", seen(&held, 0, &[]).3 == 3);
+    b.check("P beside others at leaving", seen(&held, 0, &[(0, 1)]).3 == 1);
+    b.check("P beside others at entering", seen(&held, 0, &[(0, 1), (0, 2)]).3 == 3);
+    // The call after leaving: transition 1 waits for the activity of action 0, which has P alone.
+    let moves = [transition(1, 2, 1, 0, 0), transition(2, 4, 1 << 32, 0, 0)].concat();
+    let held = held_of(&[step(1), step(0), step(0), action(0, 1), moves, block(0, 0, 5, 0)]);
+    let after = seen(&held, 0, &[(0, 1), (0, 0)]);
+    b.check("P left no activity behind", after == (0, 0, 2, 0));
 }
 
 // "Steps 0 and 1 initial, 0→2 and 1→2 both true: only the first is taken, and the next cycle takes

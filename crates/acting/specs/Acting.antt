@@ -3,10 +3,11 @@
 -- stored and latch are cleared and the timer is 0."
 -- 5. "Without reset an action is active if it is stored, or an active step has an N block, an L block with counter below its duration or a D
 -- block with counter at or above it; or SD is latched with timer at or above its duration; or SL is latched with timer below it; or P1 and the
--- step was entered; or P0 and the step was left; or P and either. A reset action is inactive."
+-- step was entered; or P0 and the step was left [..]. A reset action is inactive." Of P document 02, request (ii), says: "P is now active only in
+-- the call that enters the step, like P1."
 use Prim.Native.Nat.{ℕ}
 use mathlib.Core.List.{List}
-use mathlib.Core.Bool.{Bool, false, _&&_, _||_, cond}
+use mathlib.Core.Bool.{Bool, false, _&&_, cond}
 use lib.ListN.{getD}
 use lib.Dec.{leb, ltb, eqb}
 use Rattle.sets.specs.Sets.{has, union, inter, minus, insert, named}
@@ -29,7 +30,7 @@ request q d on entered left count time =
     (cond (eqb q S) (Set on)
     (cond (eqb q L) (Want (on && ltb count d))
     (cond (eqb q D) (Want (on && leb d count))
-    (cond (eqb q P) (Want (entered || left))
+    (cond (eqb q P) (Want entered)
     (cond (eqb q SD) (Latch on (leb d time))
     (cond (eqb q DS) (Set (on && leb d count))
     (cond (eqb q SL) (Latch on (ltb time d))

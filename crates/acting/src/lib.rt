@@ -71,7 +71,7 @@ pub fn asks<'a>(
             let count = count_of(steps.kept, step, counts);
             Request::Want(sets::is_in_mod(steps.active, step) & (duration <= count))
         }
-        5 => Request::Want(sets::is_in_mod(sets::joined(steps.entered, steps.left), step)),
+        5 => Request::Want(sets::is_in_mod(steps.entered, step)),
         6 => Request::Latch(
             sets::is_in_mod(steps.active, step),
             duration <= times[action % 32],

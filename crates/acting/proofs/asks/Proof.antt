@@ -1,8 +1,5 @@
 -- The qualifier picks the case.
-use mathlib.Core.Path.{ap}
 use borrow.Author.Tests.{ne-eqb}
-use Rattle.sets.proofs.Below.{has-union}
-use Rattle.acting.specs.declared.Request.the-variants.{Want}
 use borrow.Author.Needs.{needs}
 use Rattle.acting.proofs.asks.Statement.{statement}
 use Rattle.acting.proofs.asks.Tie as tie
@@ -28,20 +25,17 @@ count-of-requires-2 c κs = search needs
 is-in-mod-requires-5 : tie.Need-is-in-mod-requires-5
 is-in-mod-requires-5 c κs = search needs
 
-joined-requires : tie.Need-joined-requires
-joined-requires c κs = search needs
-
 is-in-mod-requires-6 : tie.Need-is-in-mod-requires-6
 is-in-mod-requires-6 c κs = search needs
 
 is-in-mod-requires-7 : tie.Need-is-in-mod-requires-7
 is-in-mod-requires-7 c κs = search needs
 
-mul-t25 : tie.Need-mul-t25
-mul-t25 c = search needs
+mul-t24 : tie.Need-mul-t24
+mul-t24 c = search needs
 
-element-copy-out-t28 : tie.Need-element-copy-out-t28
-element-copy-out-t28 c = search needs
+element-copy-out-t27 : tie.Need-element-copy-out-t27
+element-copy-out-t27 c = search needs
 
 count-of-requires-3 : tie.Need-count-of-requires-3
 count-of-requires-3 c κs = search needs
@@ -52,11 +46,11 @@ is-in-mod-requires-8 c κs = search needs
 is-in-mod-requires-9 : tie.Need-is-in-mod-requires-9
 is-in-mod-requires-9 c κs = search needs
 
-mul-t35 : tie.Need-mul-t35
-mul-t35 c = search needs
+mul-t34 : tie.Need-mul-t34
+mul-t34 c = search needs
 
-element-copy-out-t38 : tie.Need-element-copy-out-t38
-element-copy-out-t38 c = search needs
+element-copy-out-t37 : tie.Need-element-copy-out-t37
+element-copy-out-t37 c = search needs
 
 is-in-mod-requires-10 : tie.Need-is-in-mod-requires-10
 is-in-mod-requires-10 c κs = search needs
@@ -80,7 +74,7 @@ returns-5 : tie.Need-returns-5
 returns-5 c = rw (c .before .before .match .keys5, c .is-in-mod5 .ensures, c .before .count-of2 .ensures)
 
 returns-6 : tie.Need-returns-6
-returns-6 c = rw (c .before .before .match .keys6, c .is-in-mod6 .ensures, c .before .joined .ensures) (ap Want (has-union _ _ _ (search needs)))
+returns-6 c = rw (c .before .match .keys6, c .is-in-mod6 .ensures)
 
 returns-7 : tie.Need-returns-7
 returns-7 c = rw (c .before .before .match .keys7, c .before .is-in-mod7 .ensures)
@@ -125,16 +119,15 @@ asks-spec =
     is-in-mod-requires-4
     count-of-requires-2
     is-in-mod-requires-5
-    joined-requires
     is-in-mod-requires-6
     is-in-mod-requires-7
-    mul-t25
-    element-copy-out-t28
+    mul-t24
+    element-copy-out-t27
     count-of-requires-3
     is-in-mod-requires-8
     is-in-mod-requires-9
-    mul-t35
-    element-copy-out-t38
+    mul-t34
+    element-copy-out-t37
     is-in-mod-requires-10
     is-in-mod-requires-11
     returns
