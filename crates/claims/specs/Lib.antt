@@ -5,6 +5,7 @@ pub mod Ledger
 pub mod Marks
 pub mod Moves
 pub mod Numbers
+pub mod Pulses
 pub mod Runs
 pub mod Sums
 pub mod Tally
