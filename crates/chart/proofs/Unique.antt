@@ -5,7 +5,7 @@ use mathlib.Core.Path.{_≡_}
 use Rattle.sets.proofs.Unique.{one-answer}
 use Rattle.chart.specs.Chart.{noChart}
 use Rattle.chart.specs.Held.{closingCode, heldCode, chartCode}
-use Rattle.chart.specs.Initial.{initialOf}
+use Rattle.chart.specs.Initial.{initialSet}
 use Rattle.chart.specs.declared.chart.Chart.{Chart}
 
 pub no-chart-unique : (r q : Chart) → r ≡ noChart → q ≡ noChart → r ≡ q
@@ -24,5 +24,5 @@ held-code-unique s a t b c i o f g on off w bs ba bq bd cs cn ce r q = one-answe
 pub closing-code-unique : (s b : ℕ) (i ba bq : List ℕ) (r q : ℕ) → r ≡ closingCode s b i ba bq → q ≡ closingCode s b i ba bq → r ≡ q
 closing-code-unique s b i ba bq r q = one-answer
 
-pub initial-of-unique : (n : ℕ) (initial : List ℕ) (r q : ℕ) → r ≡ initialOf n initial → q ≡ initialOf n initial → r ≡ q
+pub initial-of-unique : (n : ℕ) (initial : List ℕ) (r q : ℕ) → r ≡ initialSet n initial → q ≡ initialSet n initial → r ≡ q
 initial-of-unique n initial r q = one-answer

@@ -202,7 +202,7 @@ fn timed_twice<'a>(n: usize, blockaction: &'a [u8; 256], qualifier: &'a [u8; 256
 }
 
 // A count, no more than its table has.
-fn within(n: usize, table: &[u8]) -> usize
+pub(crate) fn within(n: usize, table: &[u8]) -> usize
     ensures { λ r. ⌜ r ≡ min n (length (now (table .entry))) ⌝ }
 {
     if n < table.len() { n } else { table.len() }

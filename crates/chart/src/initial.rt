@@ -1,7 +1,8 @@
 // A chart's initial steps, as a set.
 ghost use mathlib.Core.Path.{_≡_};
 ghost use Prim.Native.Nat.{_≤_};
-ghost use Rattle.chart.specs.Initial.{initialSet, initialOf};
+ghost use Rattle.chart.specs.Initial.{initialSet};
+use crate::held;
 
 fn initial_set(n: usize, initial: &[u8; 64]) -> u64
     requires { ⌜ n ≤ 64 ⌝ }
@@ -16,12 +17,9 @@ fn initial_set(n: usize, initial: &[u8; 64]) -> u64
     s
 }
 
-// The same of any table that a caller holds: none if it says that there are more than 64 steps.
+// The same of any number of steps that a caller holds: the table has no more.
 pub fn initial_of(n: usize, initial: &[u8; 64]) -> u64
-    ensures { λ r. ⌜ r ≡ initialOf n (now (initial .entry)) ⌝ }
+    ensures { λ r. ⌜ r ≡ initialSet n (now (initial .entry)) ⌝ }
 {
-    if 64 < n {
-        return 0;
-    }
-    initial_set(n, initial)
+    initial_set(held::within(n, initial), initial)
 }

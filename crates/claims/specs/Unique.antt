@@ -14,7 +14,7 @@ use Rattle.fields.specs.Fields.{timed, unless, stepFits, actionFits, transition
 use Rattle.fields.proofs.Unique.{is-timed-unique, or-else-unique, unless-unique, step-fits-unique, action-fits-unique, transition-code-unique, block-fits-unique, case-fits-unique}
 use Rattle.chart.specs.Chart.{noChart}
 use Rattle.chart.specs.Held.{closingCode, heldCode, chartCode}
-use Rattle.chart.specs.Initial.{initialOf}
+use Rattle.chart.specs.Initial.{initialSet}
 use Rattle.chart.specs.declared.chart.Chart.{Chart}
 use Rattle.chart.proofs.Unique.{no-chart-unique, index-of-unique, closing-code-unique, held-code-unique, chart-code-unique, initial-of-unique}
 use Rattle.reader.specs.Numbers.{leFrom}
@@ -104,7 +104,7 @@ pub record ChartUnique : Type 0 where
   pub held-code : (steps actions transitions blocks cases : ℕ) (initial output sources targets on off wait blockstep blockaction qualifier duration casestep signal expected : List ℕ)
       → One (λ (r : ℕ). r ≡ heldCode steps actions transitions blocks cases initial output sources targets on off wait blockstep blockaction qualifier duration casestep signal expected)
   pub chart-code : (chart : Chart) → One (λ (r : ℕ). r ≡ chartCode chart)
-  pub initial-of : (n : ℕ) (initial : List ℕ) → One (λ (r : ℕ). r ≡ initialOf n initial)
+  pub initial-of : (n : ℕ) (initial : List ℕ) → One (λ (r : ℕ). r ≡ initialSet n initial)
 
 -- reader/src: framing, numbers, reading
 pub record ReaderUnique : Type 0 where

@@ -116,18 +116,22 @@ unfolding some
 some-same p q zero h = refl
 some-same p q (suc n) h = ap₂ _||_ (some-same p q n (λ k l. h k (omega arith))) (h n (omega arith))
 
--- where p holds of none from m on, it is enough to look below m
-pub some-capped : (p : ℕ → Bool) (m n : ℕ) → ((k : ℕ) → m ≤ k → p k ≡ false) → some p (min n m) ≡ some p n
-unfolding some
-some-capped p m zero h = let none : min 0 m ≡ 0 = omega arith in rw none
-some-capped p m (suc n) h = go (leb m n) refl (some-capped p m n h)
+-- what does not change from m on is after n turns what it is after the lesser of the two
+pub capped : {A : Type 0} (f : ℕ → A) (m n : ℕ) → ((k : ℕ) → m ≤ k → f (suc k) ≡ f k) → f (min n m) ≡ f n
+capped f m zero h = let none : min 0 m ≡ 0 = omega arith in rw none
+capped f m (suc n) h = go (leb m n) refl (capped f m n h)
   where
-    go : (t : Bool) → leb m n ≡ t → some p (min n m) ≡ some p n → some p (min (suc n) m) ≡ some p n || p n
+    go : (t : Bool) → leb m n ≡ t → f (min n m) ≡ f n → f (min (suc n) m) ≡ f (suc n)
     go true e q =
         let l = leb-true m n e in
         let same : min (suc n) m ≡ min n m = omega arith in
-        rw (same, h n l, or-false) q
+        rw same q ∙ sym (h n l)
     go false e q = let l = leb-false m n e in let same : min (suc n) m ≡ suc n = omega arith in rw same
+
+-- where p holds of none from m on, it is enough to look below m
+pub some-capped : (p : ℕ → Bool) (m n : ℕ) → ((k : ℕ) → m ≤ k → p k ≡ false) → some p (min n m) ≡ some p n
+unfolding some
+some-capped p m n h = capped (some p) m n (λ k l. rw (h k l) (or-false (some p k)))
 
 -- ---- the first number that is not 0
 

@@ -13,7 +13,7 @@ use borrow.Author.Tests.{eqb-true, eqb-false, eq-eqb, ne-eqb, lt-ltb, le-ltb, le
 use Rattle.sets.specs.Loops.{all, some}
 use Rattle.sets.specs.Sets.{bit, has, collect, Within, Apart, Below, union, inter, minus, insert, named, beyond}
 use Rattle.sets.proofs.Bits.{bit-lt, bit-and, bit-or, bit-shr, ext, bit-zero, bit-high, bit-pow-same, bit-pow-other, bit-not}
-use Rattle.sets.proofs.Loops.{some-start, eqb-sym, bool-eq, all-true, true-all, all-same, all-both, or-false, or-true, and-yes}
+use Rattle.sets.proofs.Loops.{capped, some-start, eqb-sym, bool-eq, all-true, true-all, all-same, all-both, or-false, or-true, and-yes}
 
 -- ---- a word is its members
 
@@ -207,6 +207,10 @@ unfolding collect
 collect-turn p k s r true l e t h =
     h ∙ ap (λ (x : ℕ). insert x k) e ∙ sym (or-insert (collect p k) k (below-64 p k l) l) ∙ sym (put-or k (collect p k) (collect-lt p k)) ∙ rw (add-one, ← t)
 collect-turn p k s r false l e t h = h ∙ e ∙ rw (add-one, ← t) (omega arith)
+
+pub collect-capped : (p : ℕ → Bool) (m n : ℕ) → ((k : ℕ) → m ≤ k → p k ≡ false) → collect p (min n m) ≡ collect p n
+unfolding collect
+collect-capped p m n h = capped (collect p) m n (λ k l. rw (h k l) (omega arith))
 
 -- ---- the set of f b for the numbers b below n of which p holds
 

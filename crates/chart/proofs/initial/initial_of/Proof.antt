@@ -1,17 +1,17 @@
--- No more than 64, or none.
+-- A count beyond the table is as good as the table's length.
 use borrow.Author.Needs.{needs}
-use borrow.Author.Tests.{le-leb, lt-leb}
+use Rattle.chart.proofs.initial.Laws.{set-within}
 use Rattle.chart.proofs.initial.initial_of.Statement.{statement}
 use Rattle.chart.proofs.initial.initial_of.Tie as tie
 
-returns : tie.Need-returns
-returns c = rw (lt-leb _ 64 (c .if1 .taken))
+within-requires : tie.Need-within-requires
+within-requires c κs = search needs
 
 initial-set-requires : tie.Need-initial-set-requires
 initial-set-requires c κs = search needs
 
-returns-2 : tie.Need-returns-2
-returns-2 c = rw (c .initial-set .ensures, le-leb _ 64 (c .before .if1 .left))
+returns : tie.Need-returns
+returns c = rw (c .initial-set .ensures, c .before .within .ensures, set-within)
 
 pub initial-of-spec : {M : Type 1} → statement M
-initial-of-spec = tie.close (tie.spec returns initial-set-requires returns-2)
+initial-of-spec = tie.close (tie.spec within-requires initial-set-requires returns)

@@ -6,7 +6,6 @@ use denote.Ref.{now}
 use Rattle.sets.proofs.Below.{below-zero}
 use Rattle.chart.specs.Held.{chartCode}
 use Rattle.chart.proofs.held.Sound.{Sound, sound}
-use Rattle.chart.proofs.initial.Laws.{initial-whole}
 use Rattle.run.specs.Run.{noRun}
 use Rattle.run.proofs.belongs.Laws.{actions-fit}
 use Rattle.cycle.specs.Cycling.{refused, startCode, started}
@@ -93,7 +92,7 @@ returns-3 c =
     let s = acting .settle .ensures in (
       accepted-by _ (started (a .t1) (a .clock)) (refused (startCode (a .t1) (length (now (a .outputs)))) noRun) _
           (sym (chart-zero held) ∙ enough _ _ (lent held .if1 .left))
-          (started-as (a .t1) (a .clock) _ (acting .settle .result) _ _ (initial .initial-of .ensures ∙ initial-whole _ _ (chart-sound held .limits .steps)) (s .0) (c .before .before .settled-counters .ensures) (c .settled-timers .ensures)),
+          (started-as (a .t1) (a .clock) _ (acting .settle .result) _ _ (initial .initial-of .ensures) (s .0) (c .before .before .settled-counters .ensures) (c .settled-timers .ensures)),
       s .1,
     )
 

@@ -7,7 +7,6 @@ use denote.Ref.{now}
 use borrow.Author.Needs.{needs}
 use Rattle.chart.specs.Held.{chartCode}
 use Rattle.chart.proofs.held.Sound.{Sound, sound}
-use Rattle.chart.proofs.initial.Laws.{initial-whole}
 use Rattle.tally.specs.Weighing.{unbalancedIn}
 use Rattle.tally.proofs.weighing.Laws.{chart-refused, weights-refused, balance-refused, accepted}
 use Rattle.tally.proofs.weighing.weigh.Statement.{statement}
@@ -82,7 +81,7 @@ returns-4 c =
     let begun = passed balanced in
     let a = call begun .args in
     accepted (a .t1) (now (a .weights)) _ (chart-zero (begun .before)) (as-many begun) (none-unbalanced balanced)
-    (rw (c .weight-in .ensures, c .before .initial-of .ensures, initial-whole _ (a .t1 .initial) (chart-sound begun .limits .steps)))
+    (rw (c .weight-in .ensures, c .before .initial-of .ensures))
 
 pub weigh-spec : {M : Type 1} → statement M
 weigh-spec =
