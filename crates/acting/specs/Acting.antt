@@ -88,15 +88,20 @@ abbrev pub requestOf : List ℕ → List ℕ → List ℕ → List ℕ → List 
 requestOf step action qualifier duration counts times steps b =
     requestAt (getD step b 0) (getD qualifier b 0) (getD duration b 0) (getD counts (getD step b 0) 0) (getD times (getD action b 0) 0) steps
 
--- the actions for which some of the first n blocks asks so
-unfoldable pub asked : ℕ → List ℕ → List ℕ → List ℕ → List ℕ → List ℕ → List ℕ → Steps → Asked
-asked n step action qualifier duration counts times steps = record {
-  reset = named (λ b. resets (requestOf step action qualifier duration counts times steps b)) (λ b. getD action b 0) n;
-  set = named (λ b. sets (requestOf step action qualifier duration counts times steps b)) (λ b. getD action b 0) n;
-  latch = named (λ b. latches (requestOf step action qualifier duration counts times steps b)) (λ b. getD action b 0) n;
-  want = named (λ b. wants (requestOf step action qualifier duration counts times steps b)) (λ b. getD action b 0) n;
-  ripe = named (λ b. ripens (requestOf step action qualifier duration counts times steps b)) (λ b. getD action b 0) n;
+-- the actions of which some of the first n requests asks so, by each request's action
+abbrev pub askedBy : (ℕ → Request) → (ℕ → ℕ) → ℕ → Asked
+askedBy request action n = record {
+  reset = named (λ b. resets (request b)) action n;
+  set = named (λ b. sets (request b)) action n;
+  latch = named (λ b. latches (request b)) action n;
+  want = named (λ b. wants (request b)) action n;
+  ripe = named (λ b. ripens (request b)) action n;
 }
+
+-- what the first n blocks ask
+unfoldable pub asked : ℕ → List ℕ → List ℕ → List ℕ → List ℕ → List ℕ → List ℕ → Steps → Asked
+asked n step action qualifier duration counts times steps =
+    askedBy (requestOf step action qualifier duration counts times steps) (λ b. getD action b 0) n
 
 -- what the actions become: reset wins
 abbrev pub storedAfter : Asked → ℕ → ℕ

@@ -1,22 +1,21 @@
 -- Document 02, request (ii): "P is now active only in the call that enters the step, like P1." So P and P1 give the same activity in every call:
 -- charts that differ at most in P where the other has P1 answer every start and every cycle alike.
 use Prim.Native.Nat.{ℕ}
-use mathlib.Core.Bool.{Bool, true, false, _&&_, cond}
+use mathlib.Core.Bool.{Bool, true, false, cond}
 use mathlib.Core.List.{List, [], _∷_, map}
 use mathlib.Core.Path.{_≡_, refl, sym, ap, ap₂, _∙_, fun-ext}
 use lib.IntN.{ℤ}
 use lib.ListN.{getD, List·getD-map}
 use lib.Dec.{eqb}
 use borrow.Author.Tests.{eqb-true}
-use Rattle.sets.specs.Loops.{some, firstCode}
-use Rattle.sets.specs.Sets.{named}
+use Rattle.sets.specs.Loops.{firstCode}
 use Rattle.fields.specs.Fields.{P, P1, timed, unless, blockFits}
-use Rattle.chart.specs.Held.{blocksCode, timedFor, timedTwice, heldCode, chartCode}
+use Rattle.chart.specs.Held.{blocksCode, heldCode, chartCode}
 use Rattle.chart.specs.declared.chart.Chart.{Chart}
-use Rattle.acting.specs.Acting.{requestAt, requestOf, resets, sets, latches, wants, ripens, asked}
+use Rattle.chart.proofs.held.Laws.{twice-same}
+use Rattle.acting.specs.Acting.{requestAt, requestOf, askedBy, asked}
 use Rattle.acting.specs.declared.Steps.{Steps}
 use Rattle.acting.specs.declared.Request.{Request}
-use Rattle.acting.specs.declared.Asked.{Asked}
 use Rattle.run.specs.declared.run.Run.{Run}
 use Rattle.cycle.specs.Cycling.{chartOf, startOf, cycleOf, outputsAfter}
 use Rattle.cycle.specs.declared.cycling.Cycled.{Cycled}
@@ -61,19 +60,11 @@ module _ (qualifier : List ℕ) where
   asked-same : (n : ℕ) (step action duration counts times : List ℕ) (steps : Steps)
       → asked n step action told-P1 duration counts times steps ≡ asked n step action qualifier duration counts times steps
   unfolding asked
-  asked-same n step action duration counts times steps = ap asking (fun-ext same)
+  asked-same n step action duration counts times steps =
+      ap (λ (f : ℕ → Request). askedBy f (λ b. getD action b 0) n) (fun-ext same)
     where
       same : (b : ℕ) → requestOf step action told-P1 duration counts times steps b ≡ requestOf step action qualifier duration counts times steps b
       same b = request-same _ _ _ _ steps b
-
-      asking : (ℕ → Request) → Asked
-      asking f = record {
-        reset = named (λ b. resets (f b)) (λ b. getD action b 0) n;
-        set = named (λ b. sets (f b)) (λ b. getD action b 0) n;
-        latch = named (λ b. latches (f b)) (λ b. getD action b 0) n;
-        want = named (λ b. wants (f b)) (λ b. getD action b 0) n;
-        ripe = named (λ b. ripens (f b)) (λ b. getD action b 0) n;
-      }
 
   blocks-same : (n steps actions : ℕ) (step action duration : List ℕ) → blocksCode n steps actions step action told-P1 duration ≡ blocksCode n steps actions step action qualifier duration
   unfolding blocksCode
@@ -81,15 +72,10 @@ module _ (qualifier : List ℕ) where
       ap (λ (f : ℕ → Bool). firstCode (λ b. unless (f b) 5) n)
       (fun-ext (λ b. told-at (λ q. blockFits steps actions (getD step b 0) (getD action b 0) q (getD duration b 0)) refl qualifier b))
 
-  twice-same : (n : ℕ) (action : List ℕ) → timedTwice n action told-P1 ≡ timedTwice n action qualifier
-  unfolding timedTwice timedFor
-  twice-same n action =
-      ap (λ (f : ℕ → Bool). some (λ i. f i && some (λ b. f b && eqb (getD action b 0) (getD action i 0)) i) n) (fun-ext (told-at timed refl qualifier))
-
 module _ (c : Chart) where
   test-same : chartCode (withP1 c) ≡ chartCode c
   unfolding heldCode
-  test-same = rw (blocks-same (c .qualifier) (c .blocks) (c .steps) (c .actions) (c .blockstep) (c .blockaction) (c .duration), twice-same (c .qualifier) (c .blocks) (c .blockaction))
+  test-same = rw (blocks-same (c .qualifier) (c .blocks) (c .steps) (c .actions) (c .blockstep) (c .blockaction) (c .duration), twice-same (c .blocks) (c .blockaction) (c .blockaction) (map asP1 (c .qualifier)) (c .qualifier) (λ i l. refl) (λ i l. told-at timed refl (c .qualifier) i))
 
   start-same : (clock lent : ℕ) → startOf (withP1 c) clock lent ≡ startOf c clock lent
   start-same clock lent = rw (test-same, asked-same (c .qualifier) (c .blocks) (c .blockstep) (c .blockaction) (c .duration) _ _ _)

@@ -1,8 +1,8 @@
 -- A chart's file is read back as the chart, as far as its counts reach: record after record, the chart so far is the first records of it.
 use Prim.Native.Nat.{ℕ, zero, suc, _+_, _-_, _≤_, _<_}
 use mathlib.Core.List.{List, [], _++_}
-use mathlib.Core.Bool.{Bool, true, false, _&&_, cond}
-use mathlib.Core.Path.{_≡_, refl, ap, ap₂, _∙_}
+use mathlib.Core.Bool.{Bool, true, false, cond}
+use mathlib.Core.Path.{_≡_, refl, ap, _∙_}
 use native.Mathlib.Numerals.{add-one}
 use native.Mathlib.Omega.{arith}
 use lib.IntN.{pos}
@@ -14,9 +14,9 @@ use Rattle.sets.specs.Loops.{tableFrom}
 use Rattle.sets.proofs.Loops.{bool-eq, some-same, first-zero, length-table, getD-table, is-table}
 use Rattle.fields.specs.Fields.{timed, unless}
 use Rattle.chart.specs.Chart.{noChart}
-use Rattle.chart.specs.Held.{stepsCode, stepFitsAt, actionsCode, actionFitsAt, transitionsCode, transitionCodeAt, blocksCode, blockFitsAt, casesCode, caseFitsAt, initialAt, someInitial, timedFor, timedAgain, timedTwice, chartCode}
+use Rattle.chart.specs.Held.{stepsCode, stepFitsAt, actionsCode, actionFitsAt, transitionsCode, transitionCodeAt, blocksCode, blockFitsAt, casesCode, caseFitsAt, initialAt, someInitial, timedTwice, chartCode}
 use Rattle.chart.specs.declared.chart.Chart.{Chart}
-use Rattle.chart.proofs.held.Laws.{Limits, limits}
+use Rattle.chart.proofs.held.Laws.{Limits, limits, twice-same}
 use Rattle.chart.proofs.held.Sound.{Zero, is-zero}
 use Rattle.reader.specs.Framing.{recordBytes}
 use Rattle.reader.specs.Bodies.{kindOf, recordOf, limited}
@@ -151,18 +151,9 @@ initial-same : (n : ℕ) (l : List ℕ) → n ≤ 64 → someInitial n (upTo 0 6
 unfolding someInitial
 initial-same n l m = some-same (initialAt (upTo 0 64 n l)) (initialAt l) n (λ k h. ap (λ (x : ℕ). eqb x 1) (up-get 0 64 n l k h m))
 
-module _ (n : ℕ) (a q : List ℕ) (m : n ≤ 256) where
-  for-same : (x i : ℕ) → i ≤ n → timedFor (upTo 0 256 n a) (upTo 0 256 n q) x i ≡ timedFor a q x i
-  unfolding timedFor
-  for-same x i h =
-      some-same (λ j. timed (getD (upTo 0 256 n q) j 0) && eqb (getD (upTo 0 256 n a) j 0) x) (λ j. timed (getD q j 0) && eqb (getD a j 0) x) i
-      (λ j k. ap₂ (λ (u v : ℕ). timed u && eqb v x) (up-get 0 256 n q j (omega arith) m) (up-get 0 256 n a j (omega arith) m))
-
-  twice-same : timedTwice n (upTo 0 256 n a) (upTo 0 256 n q) ≡ timedTwice n a q
-  unfolding timedTwice
-  twice-same =
-      some-same (timedAgain (upTo 0 256 n a) (upTo 0 256 n q)) (timedAgain a q) n
-      (λ i h. rw (up-get 0 256 n q i h m, up-get 0 256 n a i h m, for-same (getD a i 0) i (omega arith)))
+timed-same : (n : ℕ) (a q : List ℕ) → n ≤ 256 → timedTwice n (upTo 0 256 n a) (upTo 0 256 n q) ≡ timedTwice n a q
+timed-same n a q m =
+    twice-same n (upTo 0 256 n a) a (upTo 0 256 n q) q (λ i l. up-get 0 256 n a i l m) (λ i l. ap timed (up-get 0 256 n q i l m))
 
 -- ---- the whole file
 
@@ -170,7 +161,7 @@ module _ (c : Chart) (t : Typed c) (z : Zero c) (l : Limits (c .steps) (c .actio
   reads-end : (at : ℕ) → Part s at (recordBytes 0 []) (length s) → Reads (accepted (asCounted c)) s at 5 (asCounted c)
   reads-end at p before zero h k = absurd (omega arith)
   reads-end at p before (suc fuel) h k =
-      read-end s at fuel before (asCounted c) p (rw (initial-same (c .steps) (c .initial) (l .steps), twice-same (c .blocks) (c .blockaction) (c .qualifier) (l .blocks)) (z .closing))
+      read-end s at fuel before (asCounted c) p (rw (initial-same (c .steps) (c .initial) (l .steps), timed-same (c .blocks) (c .blockaction) (c .qualifier) (l .blocks)) (z .closing))
 
   reads-all : Part s 0 (chartRecords c ++ recordBytes 0 []) (length s) → readChart s ≡ accepted (asCounted c)
   reads-all p =

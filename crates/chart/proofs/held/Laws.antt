@@ -9,7 +9,7 @@ use lib.Seq.{getD-set-same, getD-set-other}
 use lib.Dec.{leb, ltb, eqb}
 use borrow.Author.Tests.{leb-true, lt-ltb, ltb-true, eqb-true, eqb-false}
 use Rattle.sets.specs.Loops.{all, some, firstCode}
-use Rattle.sets.proofs.Loops.{first-by-test, and-true, some-start, some-turn, some-capped, all-both, all-done, or-false, or-true, and-yes, and-no}
+use Rattle.sets.proofs.Loops.{first-by-test, and-true, some-start, some-turn, some-same, some-capped, all-both, all-done, or-false, or-true, and-yes, and-no}
 use Rattle.fields.specs.Fields.{timed, unless}
 use Rattle.fields.proofs.Laws.{timing-fits, timing-timed}
 use Rattle.chart.specs.Held.{limitsFit, blockNamesAt, durationFitsAt, untimedFitsAt, blockFitsAt, blocksCode, caseFitsAt, initialAt, someInitial, timedFor, timedAgain, timedTwice}
@@ -110,3 +110,12 @@ module _ (acts quals : List ℕ) (seen : List Bool) (twice : Bool) (i : ℕ) (o 
     marks = λ b hb. sym (or-false (getD seen b false)) ∙ some-turn _ i (o .marks b hb) (ap (λ (x : Bool). x && eqb (getD acts i 0) b) e);
     again = sym (or-false twice) ∙ some-turn _ i (o .again) (ap (λ (x : Bool). x && timedFor acts quals (getD acts i 0) i) e);
   }
+
+-- ---- tables with the same actions and the same timed blocks
+
+pub twice-same : (n : ℕ) (a a' q q' : List ℕ) → ((i : ℕ) → i < n → getD a i 0 ≡ getD a' i 0) → ((i : ℕ) → i < n → timed (getD q i 0) ≡ timed (getD q' i 0))
+    → timedTwice n a q ≡ timedTwice n a' q'
+unfolding timedTwice timedFor
+twice-same n a a' q q' e f =
+    some-same (timedAgain a q) (timedAgain a' q') n
+    (λ i h. ap₂ _&&_ (f i h) (some-same _ _ i (λ j k. ap₂ _&&_ (f j (omega arith)) (ap₂ eqb (e j (omega arith)) (e i h)))))
