@@ -45,14 +45,14 @@ module _ (step action qualifier duration counts times : List ℕ) (steps : Steps
         named-turn (λ b. ripens (asks b)) of b,
       )
 
-  -- a block of a chart that passed its test: its numbers are below 64 and 32
-  pub one-asked : (b : ℕ) (x y : Asked) (s a : ℕ) (r : Request) → getD step b 0 < 64 → getD action b 0 < 32
-      → x ≡ asked b step action qualifier duration counts times steps → s ≡ getD step b 0 → a ≡ getD action b 0
+  -- one block more: its step counts by its rest by 64, its action is below 32
+  pub one-asked : (b : ℕ) (x y : Asked) (s a : ℕ) (r : Request) → getD action b 0 < 32
+      → x ≡ asked b step action qualifier duration counts times steps → s % 64 ≡ getD step b 0 → a ≡ getD action b 0
       → r ≡ requestAt (s % 64) (getD qualifier b 0) (getD duration b 0) (getD counts (s % 64) 0) (getD times (a % 32) 0) steps → y ≡ putting x (a % 64) r
       → y ≡ asked (b + 1) step action qualifier duration counts times steps
-  one-asked b x y s a r l m e p q w h =
+  one-asked b x y s a r m e p q w h =
       let wide : getD action b 0 < 64 = omega (arith, m) in
-      h ∙ rw (w, e, p, q, mod-eq-of-lt l, mod-eq-of-lt m, mod-eq-of-lt wide, add-one) (turn b)
+      h ∙ rw (w, e, p, q, mod-eq-of-lt m, mod-eq-of-lt wide, add-one) (turn b)
 
 -- ---- reset wins, and only a reset clears a latch
 

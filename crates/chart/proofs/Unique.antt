@@ -1,5 +1,5 @@
 -- Two answers that one statement allows are equal, for each public function.
-use Prim.Native.Nat.{ℕ, _<_}
+use Prim.Native.Nat.{ℕ, _<_, min}
 use mathlib.Core.List.{List}
 use mathlib.Core.Path.{_≡_}
 use Rattle.sets.proofs.Unique.{one-answer}
@@ -10,6 +10,9 @@ use Rattle.chart.specs.declared.chart.Chart.{Chart}
 
 pub no-chart-unique : (r q : Chart) → r ≡ noChart → q ≡ noChart → r ≡ q
 no-chart-unique r q = one-answer
+
+pub at-most-unique : (n table r q : ℕ) → r ≡ min n table → q ≡ min n table → r ≡ q
+at-most-unique n table r q = one-answer
 
 pub index-of-unique : (x r q : ℕ) → (r ≡ x) × (r < 256) → (q ≡ x) × (q < 256) → r ≡ q
 index-of-unique x r q e f = one-answer (e .0) (f .0)

@@ -1,6 +1,6 @@
 // A chart as it is held: five counts, and a table for each field of each kind, with the values of the file.
 ghost use mathlib.Core.Path.{_≡_};
-ghost use Prim.Native.Nat.{_<_};
+ghost use Prim.Native.Nat.{_<_, min};
 ghost use Rattle.chart.specs.Chart.{noChart};
 
 pub struct Chart {
@@ -51,6 +51,13 @@ pub fn no_chart() -> Chart
         signal: [0; 64],
         expected: [0; 64],
     }
+}
+
+// A count, no more than its table has.
+pub fn at_most(n: usize, table: usize) -> usize
+    ensures { λ r. ⌜ r ≡ min n table ⌝ }
+{
+    if n < table { n } else { table }
 }
 
 // A byte that names an entry of a table.

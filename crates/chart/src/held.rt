@@ -7,6 +7,7 @@ ghost use lib.ListN.{length};
 ghost use Rattle.sets.specs.Loops.{all};
 ghost use Rattle.chart.specs.Held.{limitsFit, stepsCode, actionsCode, transitionsCode, blockNamesAt, durationFitsAt, untimedFitsAt, blocksCode, casesCode, someInitial, timedTwice, closingCode, heldCode, chartCode};
 use crate::chart::Chart;
+use crate::chart::at_most;
 use crate::chart::index_of;
 use crate::codes::NO_INITIAL;
 use crate::codes::TIMED_TWICE;
@@ -201,11 +202,11 @@ fn timed_twice<'a>(n: usize, blockaction: &'a [u8; 256], qualifier: &'a [u8; 256
     twice
 }
 
-// A count, no more than its table has.
+// A count, no more than a lent table has: it is lent as a slice, which tells the proof its length.
 pub(crate) fn within(n: usize, table: &[u8]) -> usize
     ensures { λ r. ⌜ r ≡ min n (length (now (table .entry))) ⌝ }
 {
-    if n < table.len() { n } else { table.len() }
+    at_most(n, table.len())
 }
 
 // What is tested once the records are done: no initial step (9), two timed blocks for one action (8).

@@ -5,6 +5,7 @@ pub mod held;
 pub mod initial;
 
 pub use chart::Chart;
+pub use chart::at_most;
 pub use chart::index_of;
 pub use chart::no_chart;
 pub use held::chart_code;

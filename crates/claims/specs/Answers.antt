@@ -9,7 +9,7 @@ use mathlib.Core.Path.{_≡_, refl, sym, ap, _∙_}
 use native.Mathlib.Omega.{arith}
 use lib.IntN.{ℤ}
 use lib.ListN.{length, getD, take, drop}
-use lib.Dec.{leb, eqb}
+use lib.Dec.{eqb}
 use borrow.Author.Tests.{le-leb, lt-leb, eq-eqb, ne-eqb}
 use Rattle.sets.specs.Loops.{orElse}
 use Rattle.fields.specs.Fields.{unless}
@@ -27,10 +27,10 @@ use Rattle.run.specs.Belongs.{belongs}
 use Rattle.run.specs.declared.run.Run.{Run}
 use Rattle.cycle.specs.Time.{elapsed}
 use Rattle.cycle.specs.Outputs.{outputsOf}
-use Rattle.cycle.specs.Cycling.{startCode, cycleCode, startOf, cycleOf, outputsAfter}
+use Rattle.cycle.specs.Cycling.{startCode, readyCode, lateCode, cycleCode, startOf, cycleOf, outputsAfter}
 use Rattle.cycle.specs.declared.cycling.Cycled.{Cycled}
 use Rattle.cycle.proofs.cycling.Kept.{start-refused, cycle-refused}
-use Rattle.cycle.proofs.cycling.Laws.{few, enough, stops, goes-on, other-run, own-run, too-late, in-time}
+use Rattle.cycle.proofs.cycling.Laws.{few, enough, stops, goes-on, too-late, in-time}
 use Rattle.trace.specs.Tracing.{recordFits, traceNumber}
 use Rattle.tally.specs.Tallying.{tallyCode, tallyOf}
 use Rattle.tally.specs.Weighing.{balanced, unbalancedIn, weighCode, refused, weighed, weighOf}
@@ -175,15 +175,18 @@ pub cycle-answers : (c : Chart) (r : Run) (clock inputs : ℕ) (out : List ℤ) 
 cycle-answers c r clock inputs out =
     let o = cycleOf c r clock inputs (length out) in
     let n : o .code ≡ cycleCode c r clock (length out) = cycle-code c r clock inputs (length out) in
-    let late : ℕ = unless (leb (elapsed (r .clock) clock) 60000) 11 in
-    let own : ℕ = orElse (unless (belongs c r) 12) late in
-    let on : 32 ≤ length out → chartCode c ≡ 0 → o .code ≡ own = λ h e. n ∙ sym (goes-on (chartCode c) own e ∙ enough (orElse (chartCode c) own) (length out) h) in
+    let late : ℕ = lateCode r clock in
+    let own : ℕ = unless (belongs c r) 12 in
+    let ready : ℕ = readyCode c r (length out) in
+    let on : 32 ≤ length out → chartCode c ≡ 0 → ready ≡ own = λ h e. sym (goes-on (chartCode c) own e ∙ enough (orElse (chartCode c) own) (length out) h) in
+    let stopped : (k : ℕ) → (k ≡ 0 → ⊥) → ready ≡ k → o .code ≡ k = λ k z e. n ∙ sym (stops ready late (λ q. z (sym e ∙ q))) ∙ e in
+    let tested : 32 ≤ length out → chartCode c ≡ 0 → belongs c r ≡ true → o .code ≡ late = λ h e f. n ∙ sym (goes-on ready late (on h e ∙ ap (λ (b : Bool). unless b 12) f)) in
     record {
-      few-outputs = λ h. n ∙ sym (few (orElse (chartCode c) own) (length out) h);
-      bad-chart = λ h z. n ∙ sym (stops (chartCode c) own z ∙ enough (orElse (chartCode c) own) (length out) h);
-      other-run = λ h e f. on h e ∙ sym (other-run (belongs c r) late f);
-      too-late = λ h e f l. on h e ∙ sym (too-late (elapsed (r .clock) clock) l ∙ own-run (belongs c r) late f);
-      accepted = λ h e f l. on h e ∙ sym (in-time (elapsed (r .clock) clock) l ∙ own-run (belongs c r) late f);
+      few-outputs = λ h. stopped 15 (λ z. omega arith) (sym (few (orElse (chartCode c) own) (length out) h));
+      bad-chart = λ h z. stopped (chartCode c) z (sym (stops (chartCode c) own z ∙ enough (orElse (chartCode c) own) (length out) h));
+      other-run = λ h e f. stopped 12 (λ z. omega arith) (on h e ∙ ap (λ (b : Bool). unless b 12) f);
+      too-late = λ h e f l. tested h e f ∙ sym (too-late (elapsed (r .clock) clock) l);
+      accepted = λ h e f l. tested h e f ∙ sym (in-time (elapsed (r .clock) clock) l);
       same-run = λ z. ap (λ (o : Cycled). o .run) (cycle-refused c r clock inputs (length out) z);
       takes-nothing = λ z. ap (λ (o : Cycled). o .taken) (cycle-refused c r clock inputs (length out) z);
       untouched = left-alone c o out;

@@ -18,6 +18,7 @@ use Rattle.cycle.specs.Time.{elapsed, grownCounts}
 use Rattle.cycle.specs.Moving.{signalsOf}
 use Rattle.cycle.specs.Cycling.{refused, startCode, cycleCode, started, startOf, choiceOf, cycled}
 use Rattle.cycle.specs.declared.cycling.Cycled.{Cycled}
+use Rattle.cycle.proofs.cycling.Laws.{cycle-passed}
 use Rattle.claims.specs.Moves.{among, chosen-is, moved}
 use Rattle.claims.specs.Runs.{Call, answer, begun, one}
 
@@ -51,9 +52,7 @@ fair c r x = go (eqb (cycleCode c r (x .clock) (x .lent)) 0) refl
   where
     go : (b : Bool) → eqb (cycleCode c r (x .clock) (x .lent)) 0 ≡ b
         → Fair c r (cond b (cycled c r (x .clock) (x .inputs)) (refused (cycleCode c r (x .clock) (x .lent)) r))
-    go true e =
-        let a = else-zero (unless (leb 32 (x .lent)) 15) _ (eqb-true _ 0 e) in
-        fair-cycled c r (x .clock) (x .inputs) (sound c (else-zero (chartCode c) _ (a .1) .0) .limits .transitions)
+    go true e = fair-cycled c r (x .clock) (x .inputs) (sound c (cycle-passed c r (x .clock) (x .lent) (eqb-true _ 0 e) .chart) .limits .transitions)
     go false e = fair-refused c r (cycleCode c r (x .clock) (x .lent)) (eqb-false _ 0 e)
 
 -- an accepted start makes the initial steps active, of a chart of at most 64 steps

@@ -1,6 +1,6 @@
 -- For Answers: an entry's number is its tests' first, what holds of each number that the tests give holds of it, and what a refusal leaves.
 use Prim.Native.Nat.{ℕ, zero, suc, _+_, _-_, _<_}
-use mathlib.Core.Bool.{Bool, true, false, not, cond}
+use mathlib.Core.Bool.{Bool, true, false, cond}
 use mathlib.Core.List.{List}
 use mathlib.Core.Path.{_≡_, refl, sym, ap, _∙_}
 use native.Mathlib.Omega.{arith}
@@ -10,7 +10,7 @@ use lib.Seq.{take-at, drop-at}
 use lib.Dec.{leb, ltb, eqb}
 use borrow.Author.Tests.{eqb-true, eq-eqb, ne-eqb}
 use Rattle.sets.specs.Loops.{firstCode}
-use Rattle.sets.proofs.Loops.{first-found, length-table}
+use Rattle.sets.proofs.Loops.{first-found}
 use Rattle.fields.specs.Fields.{unless, stepFits, actionFits, blockFits, caseFits}
 use Rattle.chart.specs.Chart.{noChart}
 use Rattle.chart.specs.Held.{closingCode}
@@ -27,8 +27,9 @@ use Rattle.run.specs.Belongs.{belongs}
 use Rattle.run.specs.declared.run.Run.{Run}
 use Rattle.cycle.specs.Time.{elapsed}
 use Rattle.cycle.specs.Outputs.{outputsOf}
-use Rattle.cycle.specs.Cycling.{refused as turned-away, startCode, cycleCode, started, startOf, cycled, cycleOf, outputsAfter}
+use Rattle.cycle.specs.Cycling.{refused as turned-away, startCode, readyCode, lateCode, cycleCode, started, startOf, cycled, cycleOf, outputsAfter}
 use Rattle.cycle.specs.declared.cycling.Cycled.{Cycled}
+use Rattle.cycle.proofs.outputs.Laws.{outputs-length}
 use Rattle.trace.specs.Tracing.{isOver, recordFits, traceNumber}
 use Rattle.tally.specs.Tallying.{countsOf, refused as uncounted, tallyCode, tallyOf}
 use Rattle.tally.specs.Weighing.{balanced, unbalanced, unbalancedIn, weighCode, refused as unweighed, weighed, weighOf}
@@ -111,8 +112,9 @@ module _ (P : ℕ → Type 0) where
     pub cycle-each : P 15 → P 12 → P 11 → (c : Chart) (r : Run) (clock inputs lent : ℕ) → P (cycleOf c r clock inputs lent .code)
     cycle-each p15 p12 p11 c r clock inputs lent =
         rw (cycle-code c r clock inputs lent)
-        (else-each P _ _ (either P (leb 32 lent) 0 15 p0 p15)
-        (else-each P _ _ (chart-each P p0 p4 p5 p6 p7 p9 p8 c) (else-each P _ _ (either P (belongs c r) 0 12 p0 p12) (either P (leb (elapsed (r .clock) clock) 60000) 0 11 p0 p11))))
+        (else-each P (readyCode c r lent) (lateCode r clock)
+        (else-each P _ _ (either P (leb 32 lent) 0 15 p0 p15) (else-each P _ _ (chart-each P p0 p4 p5 p6 p7 p9 p8 c) (either P (belongs c r) 0 12 p0 p12)))
+        (either P (leb (elapsed (r .clock) clock) 60000) 0 11 p0 p11))
 
     pub tally-each : P 12 → (c : Chart) (r : Run) → P (tallyOf c r .code)
     tally-each p12 c r = rw (tally-code c r) (else-each P _ _ (chart-each P p0 p4 p5 p6 p7 p9 p8 c) (either P (belongs c r) 0 12 p0 p12))
@@ -192,11 +194,6 @@ module _ (c : Chart) (weights : List ℕ) where
       first-found (λ t. unless (fair t) (t + 1)) t (c .transitions) (t + 1) (first-none (λ t. unless (fair t) (t + 1)) t (λ u k. rw (h u k))) l (rw e) (λ z. omega arith)
 
 -- ---- the lent outputs
-
--- the outputs are 32
-outputs-length : (n : ℕ) (output : List ℕ) (value : List ℤ) (activity : ℕ) → length (outputsOf n output value activity) ≡ 32
-unfolding outputsOf
-outputs-length n output value activity = length-table _ 32
 
 module _ (c : Chart) (o : Cycled) (out : List ℤ) where
   -- a refusal leaves them

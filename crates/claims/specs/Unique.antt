@@ -1,5 +1,5 @@
 -- "Prove that two answers allowed by one statement are equal": each public function of the parts, by the statement in its source.
-use Prim.Native.Nat.{ℕ, _%_, _≤_, _<_}
+use Prim.Native.Nat.{ℕ, _%_, _≤_, _<_, min}
 use mathlib.Core.Bool.{Bool, cond}
 use mathlib.Core.List.{List}
 use mathlib.Core.Path.{_≡_}
@@ -16,7 +16,7 @@ use Rattle.chart.specs.Chart.{noChart}
 use Rattle.chart.specs.Held.{closingCode, heldCode, chartCode}
 use Rattle.chart.specs.Initial.{initialSet}
 use Rattle.chart.specs.declared.chart.Chart.{Chart}
-use Rattle.chart.proofs.Unique.{no-chart-unique, index-of-unique, closing-code-unique, held-code-unique, chart-code-unique, initial-of-unique}
+use Rattle.chart.proofs.Unique.{no-chart-unique, at-most-unique, index-of-unique, closing-code-unique, held-code-unique, chart-code-unique, initial-of-unique}
 use Rattle.reader.specs.Numbers.{leFrom}
 use Rattle.reader.specs.Framing.{Answers}
 use Rattle.reader.specs.Reading.{readChart}
@@ -40,9 +40,9 @@ use Rattle.run.specs.declared.run.ActionTimer.{ActionTimer}
 use Rattle.run.specs.declared.run.Run.{Run}
 use Rattle.run.proofs.Unique.{belongs-unique, counter-longer-unique, timer-longer-unique, no-run-unique}
 use Rattle.cycle.specs.Time.{elapsed}
-use Rattle.cycle.specs.Cycling.{startOf, cycleOf, outputsAfter, cycleOn}
+use Rattle.cycle.specs.Cycling.{readyCode, startOf, cycleOf, outputsAfter, cycleOn, cycleTested}
 use Rattle.cycle.specs.declared.cycling.Cycled.{Cycled}
-use Rattle.cycle.proofs.Unique.{start-unique, cycle-unique, cycle-on-unique, elapsed-unique}
+use Rattle.cycle.proofs.Unique.{start-unique, cycle-unique, cycle-on-unique, ready-code-unique, cycle-tested-unique, elapsed-unique}
 use Rattle.trace.specs.Tracing.{callAt, numberOf, traceNumber}
 use Rattle.trace.specs.declared.tracing.Call.{Call}
 use Rattle.trace.proofs.Unique.{call-at-unique}
@@ -99,6 +99,7 @@ pub record FieldsUnique : Type 0 where
 -- chart/src: chart, held, initial
 pub record ChartUnique : Type 0 where
   pub no-chart : One (λ (r : Chart). r ≡ noChart)
+  pub at-most : (n table : ℕ) → One (λ (r : ℕ). r ≡ min n table)
   pub index-of : (x : ℕ) → One (λ (r : ℕ). (r ≡ x) × (r < 256))
   pub closing-code : (steps blocks : ℕ) (initial blockaction qualifier : List ℕ) → One (λ (r : ℕ). r ≡ closingCode steps blocks initial blockaction qualifier)
   pub held-code : (steps actions transitions blocks cases : ℕ) (initial output sources targets on off wait blockstep blockaction qualifier duration casestep signal expected : List ℕ)
@@ -142,6 +143,8 @@ pub record CycleUnique : Type 0 where
   pub cycle : (chart : Chart) (run : Run) (clock inputs : ℕ) (outputs : List ℤ)
       → Both (λ (r : Cycled) (exit : List ℤ). (r ≡ cycleOf chart run clock inputs (length outputs)) × (exit ≡ outputsAfter chart r outputs))
   pub cycle-on : (lent : Chart) (run : Run) (clock inputs : ℕ) (outputs : List ℤ) → One (λ (r : Cycled × List ℤ). r ≡ cycleOn lent run clock inputs outputs)
+  pub ready-code : (lent : Chart) (run : Run) (outputs : ℕ) → One (λ (r : ℕ). r ≡ readyCode lent run outputs)
+  pub cycle-tested : (lent : Chart) (run : Run) (clock inputs : ℕ) (outputs : List ℤ) → One (λ (r : Cycled × List ℤ). r ≡ cycleTested lent run clock inputs outputs)
   pub elapsed : (last new : ℕ) → One (λ (r : ℕ). r ≡ elapsed last new)
 
 -- trace/src: tracing
@@ -208,6 +211,7 @@ unique = record {
   };
   chart = record {
     no-chart = no-chart-unique;
+    at-most = at-most-unique;
     index-of = index-of-unique;
     closing-code = closing-code-unique;
     held-code = held-code-unique;
@@ -235,6 +239,8 @@ unique = record {
     start = λ chart clock outputs r q f g a b. start-unique chart clock r q outputs f g (a .0) (b .0) (a .1) (b .1);
     cycle = λ chart run clock inputs outputs r q f g a b. cycle-unique chart run clock inputs r q outputs f g (a .0) (b .0) (a .1) (b .1);
     cycle-on = cycle-on-unique;
+    ready-code = ready-code-unique;
+    cycle-tested = cycle-tested-unique;
     elapsed = elapsed-unique;
   };
   trace = record { call-at = call-at-unique };

@@ -1,9 +1,9 @@
 -- Start and one cycle, for every argument.
-use Prim.Native.Nat.{ℕ, _≤_, _<_}
+use Prim.Native.Nat.{ℕ}
 use mathlib.Core.List.{List, _++_}
 use mathlib.Core.Bool.{cond}
 use lib.IntN.{ℤ}
-use lib.ListN.{length, getD, replicate, drop}
+use lib.ListN.{length, replicate, drop}
 use lib.Dec.{leb, eqb}
 use Rattle.sets.specs.Loops.{orElse}
 use Rattle.sets.specs.Sets.{union}
@@ -23,6 +23,7 @@ use Rattle.cycle.specs.Time.{elapsed, grownCounts, grownTimes}
 use Rattle.cycle.specs.Choosing.{stepsOf}
 use Rattle.cycle.specs.Moving.{settledCounters, settledTimers, signalsOf, marksOf}
 use Rattle.cycle.specs.Outputs.{outputsOf}
+use Rattle.cycle.specs.Bounds.{bounded}
 use Rattle.cycle.specs.declared.moving.Marks.{Marks}
 use Rattle.cycle.specs.declared.cycling.Cycled.{Cycled}
 
@@ -58,19 +59,17 @@ chartOf steps actions transitions blocks cases initial output value sources targ
 abbrev pub startCode : Chart → ℕ → ℕ
 startCode c lent = orElse (unless (leb 32 lent) 15) (chartCode c)
 
+-- the tests of a cycle that its clock has no part in: 15, chart, 12
+abbrev pub readyCode : Chart → Run → ℕ → ℕ
+readyCode c r lent = orElse (unless (leb 32 lent) 15) (orElse (chartCode c) (unless (belongs c r) 12))
+
+-- "11 elapsed time above 60,000 ms"
+abbrev pub lateCode : Run → ℕ → ℕ
+lateCode r clock = unless (leb (elapsed (r .clock) clock) 60000) 11
+
 -- "a cycle tests 15, chart, 12, 11"
 abbrev pub cycleCode : Chart → Run → ℕ → ℕ → ℕ
-cycleCode c r clock lent =
-    orElse (unless (leb 32 lent) 15)
-    (orElse (chartCode c) (orElse (unless (belongs c r) 12) (unless (leb (elapsed (r .clock) clock) 60000) 11)))
-
--- what paragraphs 4 to 6 ask of lent outputs and tables: the outputs are 32 or more, and blocks and actions name only what exists
-pub record Settles (lent actions : ℕ) (output : List ℕ) (blocks : ℕ) (blockstep blockaction : List ℕ) : Type 0 where
-  pub enough : 32 ≤ lent
-  pub few : actions ≤ 32
-  pub driven : (a : ℕ) → a < actions → getD output a 0 < 32
-  pub limited : blocks ≤ 256
-  pub named : (k : ℕ) → k < blocks → (getD blockstep k 0 < 64) × (getD blockaction k 0 < 32)
+cycleCode c r clock lent = orElse (readyCode c r lent) (lateCode r clock)
 
 -- paragraphs 4 and 5 on a chart's blocks
 abbrev pub actedOn : Chart → List ℕ → List ℕ → Steps → ℕ → ℕ → Acted
@@ -144,3 +143,13 @@ movedOn c r clock inputs out = answered c out (cycled c r clock inputs)
 
 abbrev pub cycleOn : Chart → Run → ℕ → ℕ → List ℤ → Cycled × List ℤ
 cycleOn c r clock inputs out = answered c out (cycleOf c r clock inputs (length out))
+
+-- a cycle that tests 15 and 11 alone: of a chart and a run that pass the other tests it is the cycle (proofs/cycling/Tested.antt)
+abbrev pub testedCode : Run → ℕ → ℕ → ℕ
+testedCode r clock lent = orElse (unless (leb 32 lent) 15) (lateCode r clock)
+
+abbrev pub testedOf : Chart → Run → ℕ → ℕ → ℕ → Cycled
+testedOf c r clock inputs lent = cond (eqb (testedCode r clock lent) 0) (cycled c r clock inputs) (refused (testedCode r clock lent) r)
+
+unfoldable pub cycleTested : Chart → Run → ℕ → ℕ → List ℤ → Cycled × List ℤ
+cycleTested c r clock inputs out = answered (bounded c) out (testedOf (bounded c) r clock inputs (length out))

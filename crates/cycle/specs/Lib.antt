@@ -2,4 +2,5 @@ pub mod Time
 pub mod Choosing
 pub mod Moving
 pub mod Outputs
+pub mod Bounds
 pub mod Cycling

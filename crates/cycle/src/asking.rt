@@ -1,8 +1,8 @@
 // Paragraph 4 of "One cycle": what the blocks ask of the actions, in one pass.
 ghost use mathlib.Core.Path.{_≡_};
-ghost use Prim.Native.Nat.{ℕ, _≤_, _<_};
-ghost use lib.ListN.{getD};
+ghost use Prim.Native.Nat.{min};
 ghost use Rattle.acting.specs.Acting.{asked};
+ghost use Rattle.cycle.specs.Bounds.{rests};
 use acting::Asked;
 use acting::Steps;
 
@@ -16,8 +16,7 @@ pub(crate) fn ask_blocks<'a>(
     times: &'a [u32; 32],
     steps: Steps,
 ) -> Asked
-    requires { ⌜ (n ≤ 256) × ((k : ℕ) → k < n → (getD (now blockstep) k 0 < 64) × (getD (now blockaction) k 0 < 32)) ⌝ }
-    ensures { λ r. ⌜ r ≡ asked n (now (blockstep .entry)) (now (blockaction .entry)) (now (qualifier .entry)) (now (duration .entry)) (now (counts .entry)) (now (times .entry)) steps ⌝ }
+    ensures { λ r. ⌜ r ≡ asked (min n 256) (rests 64 (now (blockstep .entry))) (rests 32 (now (blockaction .entry))) (now (qualifier .entry)) (now (duration .entry)) (now (counts .entry)) (now (times .entry)) steps ⌝ }
 {
     let mut asked = Asked {
         reset: 0,
@@ -26,10 +25,11 @@ pub(crate) fn ask_blocks<'a>(
         want: 0,
         ripe: 0,
     };
+    let last = chart::at_most(n, 256);
     let mut i = 0;
-    while i < n {
+    while i < last {
         let s = chart::index_of(blockstep[i]);
-        let a = chart::index_of(blockaction[i]);
+        let a = chart::index_of(blockaction[i]) % 32;
         let r = acting::asks(qualifier[i], duration[i], s, a, counts, times, steps);
         asked = acting::put(asked, a, r);
         i += 1;

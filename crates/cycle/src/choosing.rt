@@ -1,6 +1,6 @@
 // Paragraph 2 of "One cycle": which transitions are taken, in number order.
 ghost use mathlib.Core.Path.{_≡_};
-ghost use Prim.Native.Nat.{_≤_};
+ghost use Prim.Native.Nat.{min};
 ghost use Rattle.choice.specs.Choice.{chosen};
 ghost use Rattle.cycle.specs.Choosing.{stepsOf};
 use acting::Steps;
@@ -17,16 +17,16 @@ pub(crate) fn choose<'a>(
     active: u64,
     signals: u64,
 ) -> Choice
-    requires { ⌜ n ≤ 64 ⌝ }
-    ensures { λ r. ⌜ r ≡ chosen n (now (sources .entry)) (now (targets .entry)) (now (on .entry)) (now (off .entry)) (now (wait .entry)) (now (counts .entry)) active signals ⌝ }
+    ensures { λ r. ⌜ r ≡ chosen (min n 64) (now (sources .entry)) (now (targets .entry)) (now (on .entry)) (now (off .entry)) (now (wait .entry)) (now (counts .entry)) active signals ⌝ }
 {
     let mut choice = Choice {
         taken: 0,
         left: 0,
         claimed: 0,
     };
+    let last = chart::at_most(n, 64);
     let mut t = 0;
-    while t < n {
+    while t < last {
         choice = choice::choose_one(
             choice,
             t,

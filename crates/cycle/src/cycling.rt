@@ -1,14 +1,12 @@
 // Start and one cycle, each on a chart and a run by value, with the chart's tables lent to what is below.
 ghost use mathlib.Core.Path.{_≡_};
-ghost use mathlib.Core.Bool.{true};
 ghost use mathlib.Core.List.{_++_};
-ghost use Prim.Native.Nat.{_≤_};
+ghost use Prim.Native.Nat.{_≤_, min};
 ghost use lib.ListN.{length, drop};
-ghost use Rattle.chart.specs.Held.{chartCode};
 ghost use Rattle.acting.specs.Acting.{asked, acted};
-ghost use Rattle.run.specs.Belongs.{belongs};
 ghost use Rattle.cycle.specs.Outputs.{outputsOf};
-ghost use Rattle.cycle.specs.Cycling.{Settles, chartOf, cycleCode, startOf, movedOn, cycleOf, cycleOn, outputsAfter, refused};
+ghost use Rattle.cycle.specs.Bounds.{rests, bounded};
+ghost use Rattle.cycle.specs.Cycling.{chartOf, readyCode, startOf, movedOn, cycleTested, cycleOf, cycleOn, outputsAfter, refused};
 use crate::asking;
 use crate::choosing;
 use crate::codes::FEW_OUTPUTS;
@@ -57,8 +55,8 @@ fn settle<'a>(
     stored: u64,
     latched: u64,
 ) -> Acted
-    requires { ⌜ Settles (length (now outputs)) actions (now output) blocks (now blockstep) (now blockaction) ⌝ }
-    ensures { λ r. ⌜ (r ≡ acted (asked blocks (now (blockstep .entry)) (now (blockaction .entry)) (now (qualifier .entry)) (now (duration .entry)) (now (counts .entry)) (now (times .entry)) steps) stored latched) × (now (outputs .exit) ≡ outputsOf actions (now (output .entry)) (now (value .entry)) (r .activity) ++ drop 32 (now (outputs .entry))) ⌝ }
+    requires { ⌜ 32 ≤ length (now outputs) ⌝ }
+    ensures { λ r. ⌜ (r ≡ acted (asked (min blocks 256) (rests 64 (now (blockstep .entry))) (rests 32 (now (blockaction .entry))) (now (qualifier .entry)) (now (duration .entry)) (now (counts .entry)) (now (times .entry)) steps) stored latched) × (now (outputs .exit) ≡ outputsOf (min actions 32) (rests 32 (now (output .entry))) (now (value .entry)) (r .activity) ++ drop 32 (now (outputs .entry))) ⌝ }
 {
     let asked = asking::ask_blocks(
         blocks,
@@ -128,8 +126,9 @@ pub fn start(chart: Chart, clock: u32, outputs: &mut [i32]) -> Cycled
     }
 }
 
-// A cycle's tests in their order.
-fn cycle_code<'a>(
+// The tests of a cycle that its clock has no part in. A run that an accepted cycle returned passes them again with its chart, so that many cycles
+// make them once.
+pub fn ready_code<'a>(
     steps: usize,
     actions: usize,
     transitions: usize,
@@ -151,10 +150,9 @@ fn cycle_code<'a>(
     signal: &'a [u8; 64],
     expected: &'a [u8; 64],
     run: Run,
-    clock: u32,
     lent: usize,
 ) -> u8
-    ensures { λ r. ⌜ r ≡ cycleCode (chartOf steps actions transitions blocks cases (now (initial .entry)) (now (output .entry)) (now (value .entry)) (now (sources .entry)) (now (targets .entry)) (now (on .entry)) (now (off .entry)) (now (wait .entry)) (now (blockstep .entry)) (now (blockaction .entry)) (now (qualifier .entry)) (now (duration .entry)) (now (casestep .entry)) (now (signal .entry)) (now (expected .entry))) run clock lent ⌝ }
+    ensures { λ r. ⌜ r ≡ readyCode (chartOf steps actions transitions blocks cases (now (initial .entry)) (now (output .entry)) (now (value .entry)) (now (sources .entry)) (now (targets .entry)) (now (on .entry)) (now (off .entry)) (now (wait .entry)) (now (blockstep .entry)) (now (blockaction .entry)) (now (qualifier .entry)) (now (duration .entry)) (now (casestep .entry)) (now (signal .entry)) (now (expected .entry))) run lent ⌝ }
 {
     if lent < 32 {
         return FEW_OUTPUTS;
@@ -183,16 +181,10 @@ fn cycle_code<'a>(
     if code != 0 {
         return code;
     }
-    if !belongs::belongs(run, steps, actions, cases) {
-        return OTHER_RUN;
-    }
-    if 60000 < time::elapsed(run.clock, clock) {
-        return TOO_LATE;
-    }
-    0
+    fields::unless(belongs::belongs(run, steps, actions, cases), OTHER_RUN)
 }
 
-// Paragraphs 1 to 6, on a chart and a run that passed the tests.
+// Paragraphs 1 to 6.
 fn moved_on<'a>(
     steps: usize,
     actions: usize,
@@ -219,8 +211,8 @@ fn moved_on<'a>(
     inputs: u32,
     outputs: &mut [i32],
 ) -> Cycled
-    requires { ⌜ (chartCode (chartOf steps actions transitions blocks cases (now initial) (now output) (now value) (now sources) (now targets) (now on) (now off) (now wait) (now blockstep) (now blockaction) (now qualifier) (now duration) (now casestep) (now signal) (now expected)) ≡ 0) × (belongs (chartOf steps actions transitions blocks cases (now initial) (now output) (now value) (now sources) (now targets) (now on) (now off) (now wait) (now blockstep) (now blockaction) (now qualifier) (now duration) (now casestep) (now signal) (now expected)) run ≡ true) × (32 ≤ length (now outputs)) ⌝ }
-    ensures { λ r. ⌜ (r, now (outputs .exit)) ≡ movedOn (chartOf steps actions transitions blocks cases (now (initial .entry)) (now (output .entry)) (now (value .entry)) (now (sources .entry)) (now (targets .entry)) (now (on .entry)) (now (off .entry)) (now (wait .entry)) (now (blockstep .entry)) (now (blockaction .entry)) (now (qualifier .entry)) (now (duration .entry)) (now (casestep .entry)) (now (signal .entry)) (now (expected .entry))) run clock inputs (now (outputs .entry)) ⌝ }
+    requires { ⌜ 32 ≤ length (now outputs) ⌝ }
+    ensures { λ r. ⌜ (r, now (outputs .exit)) ≡ movedOn (bounded (chartOf steps actions transitions blocks cases (now (initial .entry)) (now (output .entry)) (now (value .entry)) (now (sources .entry)) (now (targets .entry)) (now (on .entry)) (now (off .entry)) (now (wait .entry)) (now (blockstep .entry)) (now (blockaction .entry)) (now (qualifier .entry)) (now (duration .entry)) (now (casestep .entry)) (now (signal .entry)) (now (expected .entry)))) run clock inputs (now (outputs .entry)) ⌝ }
 {
     let e = time::elapsed(run.clock, clock);
     let counters = run.counters;
@@ -275,6 +267,69 @@ fn moved_on<'a>(
     }
 }
 
+// A cycle that tests 15 and 11 alone, for callers that made the other tests before: what it takes of a chart that passed none of them, `bounded` says.
+pub fn cycle_tested<'a>(
+    steps: usize,
+    actions: usize,
+    transitions: usize,
+    blocks: usize,
+    cases: usize,
+    initial: &'a [u8; 64],
+    output: &'a [u8; 32],
+    value: &'a [i32; 32],
+    sources: &'a [u64; 64],
+    targets: &'a [u64; 64],
+    on: &'a [u64; 64],
+    off: &'a [u64; 64],
+    wait: &'a [u32; 64],
+    blockstep: &'a [u8; 256],
+    blockaction: &'a [u8; 256],
+    qualifier: &'a [u8; 256],
+    duration: &'a [u32; 256],
+    casestep: &'a [u8; 64],
+    signal: &'a [u8; 64],
+    expected: &'a [u8; 64],
+    run: Run,
+    clock: u32,
+    inputs: u32,
+    outputs: &mut [i32],
+) -> Cycled
+    ensures { λ r. ⌜ (r, now (outputs .exit)) ≡ cycleTested (chartOf steps actions transitions blocks cases (now (initial .entry)) (now (output .entry)) (now (value .entry)) (now (sources .entry)) (now (targets .entry)) (now (on .entry)) (now (off .entry)) (now (wait .entry)) (now (blockstep .entry)) (now (blockaction .entry)) (now (qualifier .entry)) (now (duration .entry)) (now (casestep .entry)) (now (signal .entry)) (now (expected .entry))) run clock inputs (now (outputs .entry)) ⌝ }
+{
+    if outputs.len() < 32 {
+        return refused(FEW_OUTPUTS, run);
+    }
+    if 60000 < time::elapsed(run.clock, clock) {
+        return refused(TOO_LATE, run);
+    }
+    moved_on(
+        steps,
+        actions,
+        transitions,
+        blocks,
+        cases,
+        initial,
+        output,
+        value,
+        sources,
+        targets,
+        on,
+        off,
+        wait,
+        blockstep,
+        blockaction,
+        qualifier,
+        duration,
+        casestep,
+        signal,
+        expected,
+        run,
+        clock,
+        inputs,
+        outputs,
+    )
+}
+
 // A cycle on a chart's lent tables: a caller that holds the chart hands no copy of it down.
 pub fn cycle_on<'a>(
     steps: usize,
@@ -304,7 +359,7 @@ pub fn cycle_on<'a>(
 ) -> Cycled
     ensures { λ r. ⌜ (r, now (outputs .exit)) ≡ cycleOn (chartOf steps actions transitions blocks cases (now (initial .entry)) (now (output .entry)) (now (value .entry)) (now (sources .entry)) (now (targets .entry)) (now (on .entry)) (now (off .entry)) (now (wait .entry)) (now (blockstep .entry)) (now (blockaction .entry)) (now (qualifier .entry)) (now (duration .entry)) (now (casestep .entry)) (now (signal .entry)) (now (expected .entry))) run clock inputs (now (outputs .entry)) ⌝ }
 {
-    let code = cycle_code(
+    let code = ready_code(
         steps,
         actions,
         transitions,
@@ -326,13 +381,12 @@ pub fn cycle_on<'a>(
         signal,
         expected,
         run,
-        clock,
         outputs.len(),
     );
     if code != 0 {
         return refused(code, run);
     }
-    moved_on(
+    cycle_tested(
         steps,
         actions,
         transitions,

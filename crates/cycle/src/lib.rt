@@ -10,4 +10,6 @@ pub mod time;
 pub use cycling::Cycled;
 pub use cycling::cycle;
 pub use cycling::cycle_on;
+pub use cycling::cycle_tested;
+pub use cycling::ready_code;
 pub use cycling::start;

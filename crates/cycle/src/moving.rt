@@ -1,7 +1,7 @@
 // Paragraph 3 of "One cycle": counters of what moved, and the marks of the cases on left steps.
 ghost use mathlib.Core.Path.{_≡_};
-ghost use Prim.Native.Nat.{ℕ, _≤_, _<_, _^_};
-ghost use lib.ListN.{getD};
+ghost use Prim.Native.Nat.{_%_, min};
+ghost use Rattle.cycle.specs.Bounds.{rests};
 ghost use Rattle.cycle.specs.Moving.{settledCounters, settledTimers, asExpected, marksOf, signalsOf};
 use run::run::ActionTimer;
 use run::run::StepCounter;
@@ -26,11 +26,10 @@ pub(crate) fn settled_counters(counts: &[u32; 64], kept: u64) -> [StepCounter; 6
 }
 
 pub(crate) fn settled_timers(times: &[u32; 32], kept: u64) -> [ActionTimer; 32]
-    requires { ⌜ kept < 2 ^ 32 ⌝ }
     ensures { λ r. ⌜ r ≡ settledTimers (now (times .entry)) kept ⌝ }
 {
     let mut out = [ActionTimer(0); 32];
-    let mut rest = kept;
+    let mut rest = kept % 4_294_967_296;
     while rest != 0 {
         let k = sets::first(rest);
         out[k] = ActionTimer(times[k]);
@@ -41,15 +40,13 @@ pub(crate) fn settled_timers(times: &[u32; 32], kept: u64) -> [ActionTimer; 32]
 
 // Signals 0 to 31 are the inputs, signal 32 + k is the activity of action k.
 pub(crate) fn signals_of(inputs: u32, activity: u64) -> u64
-    requires { ⌜ activity < 2 ^ 32 ⌝ }
     ensures { λ r. ⌜ r ≡ signalsOf inputs activity ⌝ }
 {
     (inputs as u64) | (activity << 32)
 }
 
 fn as_expected(signal: usize, expected: u8, signals: u64) -> bool
-    requires { ⌜ signal < 64 ⌝ }
-    ensures { λ r. ⌜ r ≡ asExpected signal expected signals ⌝ }
+    ensures { λ r. ⌜ r ≡ asExpected (signal % 64) expected signals ⌝ }
 {
     sets::is_in_mod(signals, signal) == (expected == 1)
 }
@@ -62,13 +59,13 @@ pub(crate) fn marks_of<'a>(
     left: u64,
     signals: u64,
 ) -> Marks
-    requires { ⌜ (n ≤ 64) × ((k : ℕ) → k < n → (getD (now step) k 0 < 64) × (getD (now signal) k 0 < 64)) ⌝ }
-    ensures { λ r. ⌜ r ≡ marksOf n (now (step .entry)) (now (signal .entry)) (now (expected .entry)) left signals ⌝ }
+    ensures { λ r. ⌜ r ≡ marksOf (min n 64) (rests 64 (now (step .entry))) (rests 64 (now (signal .entry))) (now (expected .entry)) left signals ⌝ }
 {
     let mut good = 0u64;
     let mut bad = 0u64;
+    let last = chart::at_most(n, 64);
     let mut i = 0;
-    while i < n {
+    while i < last {
         if sets::is_in_mod(left, chart::index_of(step[i])) {
             let fine = as_expected(chart::index_of(signal[i]), expected[i], signals);
             good = sets::with_if_mod(good, i, fine);

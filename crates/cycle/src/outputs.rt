@@ -1,8 +1,9 @@
 // Paragraph 6 of "One cycle": the outputs, in one pass from the last action to the first, so that the first active one wins.
 ghost use mathlib.Core.Path.{_≡_};
 ghost use mathlib.Core.List.{_++_};
-ghost use Prim.Native.Nat.{ℕ, _≤_, _<_};
-ghost use lib.ListN.{length, getD, drop};
+ghost use Prim.Native.Nat.{_≤_, min};
+ghost use lib.ListN.{length, drop};
+ghost use Rattle.cycle.specs.Bounds.{rests};
 ghost use Rattle.cycle.specs.Outputs.{outputsOf, wiped, driven};
 
 fn wipe(out: &mut [i32])
@@ -18,14 +19,14 @@ fn wipe(out: &mut [i32])
 
 // Each output's first active action drives it; an output that none drives keeps what it had.
 fn drive<'a>(out: &mut [i32], n: usize, output: &'a [u8; 32], value: &'a [i32; 32], activity: u64)
-    requires { ⌜ (32 ≤ length (now out)) × (n ≤ 32) × ((a : ℕ) → a < n → getD (now output) a 0 < 32) ⌝ }
-    ensures { λ _. ⌜ now (out .exit) ≡ driven n (now (output .entry)) (now (value .entry)) activity (now (out .entry)) ⌝ }
+    requires { ⌜ 32 ≤ length (now out) ⌝ }
+    ensures { λ _. ⌜ now (out .exit) ≡ driven (min n 32) (rests 32 (now (output .entry))) (now (value .entry)) activity (now (out .entry)) ⌝ }
 {
-    let mut a = n;
+    let mut a = chart::at_most(n, 32);
     while 0 < a {
         a -= 1;
         if sets::is_in_mod(activity, a) {
-            out[chart::index_of(output[a])] = value[a];
+            out[chart::index_of(output[a]) % 32] = value[a];
         }
     }
 }
@@ -37,8 +38,8 @@ pub(crate) fn write_outputs<'a>(
     value: &'a [i32; 32],
     activity: u64,
 )
-    requires { ⌜ (32 ≤ length (now out)) × (n ≤ 32) × ((a : ℕ) → a < n → getD (now output) a 0 < 32) ⌝ }
-    ensures { λ _. ⌜ now (out .exit) ≡ outputsOf n (now (output .entry)) (now (value .entry)) activity ++ drop 32 (now (out .entry)) ⌝ }
+    requires { ⌜ 32 ≤ length (now out) ⌝ }
+    ensures { λ _. ⌜ now (out .exit) ≡ outputsOf (min n 32) (rests 32 (now (output .entry))) (now (value .entry)) activity ++ drop 32 (now (out .entry)) ⌝ }
 {
     wipe(out);
     drive(out, n, output, value, activity);

@@ -1,6 +1,5 @@
 // Paragraph 1 of "One cycle": elapsed time, and the growth of counters and timers.
 ghost use mathlib.Core.Path.{_≡_};
-ghost use Prim.Native.Nat.{_<_, _^_};
 ghost use Rattle.cycle.specs.Time.{elapsed, grownCounts, grownTimes};
 use run::run::ActionTimer;
 use run::run::StepCounter;
@@ -29,12 +28,11 @@ pub(crate) fn grown_counts(counters: [StepCounter; 64], active: u64, e: u32) -> 
 }
 
 pub(crate) fn grown_times(timers: [ActionTimer; 32], latched: u64, e: u32) -> [u32; 32]
-    requires { ⌜ latched < 2 ^ 32 ⌝ }
     ensures { λ r. ⌜ r ≡ grownTimes timers latched e ⌝ }
 {
     let held = timers;
     let mut out = [0u32; 32];
-    let mut rest = latched;
+    let mut rest = latched % 4_294_967_296;
     while rest != 0 {
         let k = sets::first(rest);
         let t = held[k];

@@ -199,6 +199,16 @@ pub turns-more : {A : Type 0} (f : ℕ → A → A) (s : A) (k : ℕ) (now next 
 unfolding turns
 turns-more f s k now next e n = n ∙ ap (f k) e ∙ rw add-one
 
+-- what no turn changes stays as it is
+pub turns-still : {A : Type 0} (f : ℕ → A → A) (s now : A) (m n : ℕ) → now ≡ turns f s m → ((j : ℕ) → f j now ≡ now) → m ≤ n → now ≡ turns f s n
+unfolding turns
+turns-still f s now m zero e h l = let none : m ≡ 0 = omega arith in e ∙ ap (turns f s) none
+turns-still f s now m (suc n) e h l = go (leb m n) refl (turns-still f s now m n e h)
+  where
+    go : (t : Bool) → leb m n ≡ t → (m ≤ n → now ≡ turns f s n) → now ≡ turns f s (suc n)
+    go true q before = sym (h n) ∙ ap (f n) (before (leb-true m n q))
+    go false q before = let last : m ≡ suc n = omega (arith, leb-false m n q) in e ∙ ap (turns f s) last
+
 -- ---- a table, written from the front over what was there
 
 pub length-tableFrom : {A : Type 0} (f : ℕ → A) (k n : ℕ) → length (tableFrom f k n) ≡ n

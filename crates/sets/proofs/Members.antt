@@ -7,13 +7,13 @@ use native.Mathlib.Nat.{eq-or-lt-of-le, le-of-suc-le-suc, one-mul, mod-eq-of-lt,
 use native.Mathlib.Numerals.{add-one}
 use native.Mathlib.Omega.{arith}
 use lib.Dec.{eqb, ltb, leb}
-use lib.Pow.{pow-lt, pow-pos, split, shr-le, shl-shr, field, mod-mod-pow}
+use lib.Pow.{pow-lt, pow-pos, shr-le, shl-shr, field, mod-mod-pow}
 use lib.Bits.{bitAnd, bitOr, and-lt, or-lt, or-shifted-r, and-shifted}
 use borrow.Author.Tests.{eqb-true, eqb-false, eq-eqb, ne-eqb, lt-ltb, le-ltb, le-leb, lt-leb, leb-true, leb-false, ltb-true, ltb-false, not-true}
 use Rattle.sets.specs.Loops.{all, some}
 use Rattle.sets.specs.Sets.{bit, has, collect, Within, Apart, Below, union, inter, minus, insert, named, beyond}
 use Rattle.sets.proofs.Bits.{bit-lt, bit-and, bit-or, bit-shr, ext, bit-zero, bit-high, bit-pow-same, bit-pow-other, bit-not}
-use Rattle.sets.proofs.Loops.{capped, some-start, eqb-sym, bool-eq, all-true, true-all, all-same, all-both, or-false, or-true, and-yes}
+use Rattle.sets.proofs.Loops.{capped, some-start, some-same, eqb-sym, bool-eq, all-true, true-all, all-same, all-both, or-false, or-true, and-yes}
 
 -- ---- a word is its members
 
@@ -212,6 +212,12 @@ pub collect-capped : (p : ℕ → Bool) (m n : ℕ) → ((k : ℕ) → m ≤ k �
 unfolding collect
 collect-capped p m n h = capped (collect p) m n (λ k l. rw (h k l) (omega arith))
 
+-- two tests that agree below n give one set
+pub collect-same : (p q : ℕ → Bool) (n : ℕ) → ((k : ℕ) → k < n → p k ≡ q k) → collect p n ≡ collect q n
+unfolding collect
+collect-same p q zero h = refl
+collect-same p q (suc n) h = ap₂ (λ (s : ℕ) (b : Bool). s + cond b (2 ^ n) 0) (collect-same p q n (λ k l. h k (omega arith))) (h n (omega arith))
+
 -- ---- the set of f b for the numbers b below n of which p holds
 
 pub has-named : (p : ℕ → Bool) (f : ℕ → ℕ) (n a : ℕ) → a < 64 → has (named p f n) a ≡ some (λ b. p b && eqb (f b) a) n
@@ -235,6 +241,9 @@ named-turn p f n = go (p n) refl
         same-members 64 (named p f (suc n)) (named p f n) (collect-lt _ 64) (collect-lt _ 64)
         (λ a l. has-collect _ 64 a l ∙ rw e (or-false _) ∙ sym (has-collect _ 64 a l))
 
+pub named-same : (p q : ℕ → Bool) (f g : ℕ → ℕ) (n : ℕ) → ((b : ℕ) → b < n → p b ≡ q b) → ((b : ℕ) → b < n → f b ≡ g b) → named p f n ≡ named q g n
+named-same p q f g n h e = collect-same _ _ 64 (λ a l. some-same _ _ n (λ b m. ap₂ (λ (t : Bool) (x : ℕ). t && eqb x a) (h b m) (e b m)))
+
 -- ---- the members of a shifted word
 
 pub has-shl-high : (s j k : ℕ) → j ≤ k → has (s * 2 ^ j) k ≡ has s (k - j)
@@ -247,7 +256,8 @@ has-shl-low s j k l =
     and-yes (has (s * 2 ^ j) k) ∙ ap (λ (b : Bool). has (s * 2 ^ j) k && b) (sym (has-pow k k ∙ eq-eqb k k refl)) ∙ sym (has-and (s * 2 ^ j) (2 ^ k) k)
     ∙ ap (λ (x : ℕ). has x k) (and-shifted s j (2 ^ k) (pow-lt l)) ∙ has-zero k
 
-has-mod : (n s k : ℕ) → k < n → has (s % 2 ^ n) k ≡ has s k
+-- what goes by its rest by 2 ^ n keeps its numbers below n
+pub has-mod : (n s k : ℕ) → k < n → has (s % 2 ^ n) k ≡ has s k
 has-mod n s k l =
     let e : n - k - 1 + 1 + k ≡ n = omega arith in
     ap (λ (m : ℕ). has (s % 2 ^ m) k) (sym e) ∙ ap (λ (x : ℕ). eqb (x % 2) 1) (field s (n - k - 1 + 1) k) ∙ ap (λ (x : ℕ). eqb x 1) (mod-mod-pow (s / 2 ^ k) (n - k - 1) 1)
@@ -288,11 +298,3 @@ apart-beyond a b n =
     go false true true = refl
     go false true false = refl
     go false false t = refl
-
--- a set that names only numbers below n is below 2 ^ n
-pub below-lt : (s n : ℕ) → s < 2 ^ 64 → Below s n ≡ true → s < 2 ^ n
-below-lt s n hs e =
-    let z : s / 2 ^ n ≡ 0 = eqb-true _ 0 (shr-below s n hs ∙ e) in
-    let q : s / 2 ^ n * 2 ^ n + s % 2 ^ n ≡ s = split s n in
-    let r : 0 * 2 ^ n + s % 2 ^ n ≡ s = rw z at q in
-    omega (arith, mod-lt s (pow-pos n))

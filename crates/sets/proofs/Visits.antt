@@ -2,17 +2,17 @@
 use mathlib.Core.Path.{_≡_, refl, sym, ap, _∙_}
 use mathlib.Core.Bool.{Bool, true, false, _&&_, not}
 use mathlib.Core.List.{List}
-use Prim.Native.Nat.{ℕ, _^_, _≤_, _<_}
-use native.Mathlib.Nat.{lt-of-lt-of-le, lt-trans}
+use Prim.Native.Nat.{ℕ, _%_, _^_, _≤_, _<_}
+use native.Mathlib.Nat.{lt-of-lt-of-le, lt-trans, mod-lt, mod-eq-of-lt}
 use lib.Dec.{eqb}
 use lib.ListN.{length, getD, set, replicate, length-set, length-replicate, getD-replicate}
-use lib.Pow.{pow-mono}
+use lib.Pow.{pow-mono, pow-pos}
 use lib.Seq.{getD-set-same, getD-set-other}
 use borrow.Author.Tests.{eqb-true, eqb-false}
 use Rattle.sets.specs.Loops.{table}
 use Rattle.sets.specs.Sets.{has, first, remove}
 use Rattle.sets.proofs.Loops.{and-true, and-yes, is-table}
-use Rattle.sets.proofs.Members.{has-zero}
+use Rattle.sets.proofs.Members.{has-zero, has-mod}
 use Rattle.sets.proofs.Least.{first-has, first-lt, remove-lt, has-remove}
 
 -- of the members of s, numbers below n, those of `rest` are still to be visited, and P holds of every other number below n
@@ -23,8 +23,8 @@ pub record Visited (P : ℕ → Type 0) (n s rest : ℕ) : Type 0 where
   pub passed : (j : ℕ) → j < n → has rest j ≡ false → P j
 
 module _ {P : ℕ → Type 0} {n s : ℕ} where
-  pub visited-start : n ≤ 64 → s < 2 ^ n → ((j : ℕ) → j < n → has s j ≡ false → P j) → Visited P n s s
-  visited-start a b f = record { few = a; small = b; within = λ j l e. e; passed = f }
+  pub visited-start : n ≤ 64 → ((j : ℕ) → j < n → has s j ≡ false → P j) → Visited P n s (s % 2 ^ n)
+  visited-start a f = record { few = a; small = mod-lt s (pow-pos n); within = λ j l e. sym (has-mod n s j l) ∙ e; passed = λ j l e. f j l (sym (has-mod n s j l) ∙ e) }
 
   pub visited-end : {rest : ℕ} → Visited P n s rest → rest ≡ 0 → (j : ℕ) → j < n → P j
   visited-end v z j l = v .passed j l (ap (λ (x : ℕ). has x j) z ∙ has-zero j)
@@ -65,8 +65,12 @@ pub record Filled {A : Type 0} (d : A) (g : ℕ → A) (n s rest : ℕ) (l : Lis
   pub visited : Visited (λ j. getD l j d ≡ g j) n s rest
 
 module _ {A : Type 0} {d : A} {g : ℕ → A} {n s : ℕ} where
+  -- only the members below n are to be visited
+  pub filled-rest : n ≤ 64 → ((j : ℕ) → has s j ≡ false → d ≡ g j) → Filled d g n s (s % 2 ^ n) (replicate n d)
+  filled-rest a f = record { long = length-replicate n d; visited = visited-start a (λ j l e. getD-replicate n j d d l ∙ f j e) }
+
   pub filled-start : n ≤ 64 → s < 2 ^ n → ((j : ℕ) → has s j ≡ false → d ≡ g j) → Filled d g n s s (replicate n d)
-  filled-start a b f = record { long = length-replicate n d; visited = visited-start a b (λ j l e. getD-replicate n j d d l ∙ f j e) }
+  filled-start a b f = rw (mod-eq-of-lt b) at (filled-rest a f)
 
   pub filled-turn : {rest k next : ℕ} {l : List A} {v : A} → Filled d g n s rest l → (rest ≡ 0 → ⊥) → k ≡ first rest → next ≡ remove rest (first rest)
       → (has s k ≡ true → v ≡ g k) → Filled d g n s next (set l k v)

@@ -32,7 +32,7 @@ use Rattle.cycle.specs.Choosing.{movedTo, stepsOf}
 use Rattle.cycle.specs.Moving.{settledCounters, settledTimers, marksOf, signalsOf}
 use Rattle.cycle.specs.Cycling.{refused, startCode, cycleCode, actedOn, startSteps, started, startOf, choiceOf, cycled, cycleOf}
 use Rattle.cycle.specs.declared.cycling.Cycled.{Cycled}
-use Rattle.cycle.proofs.cycling.Laws.{passed}
+use Rattle.cycle.proofs.cycling.Laws.{cycle-passed}
 
 -- ---- counts
 
@@ -64,7 +64,7 @@ blank (suc n) (suc i) = blank n i
 
 -- ---- the actions
 
-pub record Actions (n : ℕ) (x : Acted) : Type 0 where
+record Actions (n : ℕ) (x : Acted) : Type 0 where
   pub stored : Below (x .stored) n ≡ true
   pub latched : Below (x .latched) n ≡ true
   pub activity : Below (x .activity) n ≡ true
@@ -96,7 +96,7 @@ module _ (n m : ℕ) (step action qualifier duration counts times : List ℕ) (s
   unfolding asked
   want-below = below-named (λ b. wants (requestOf step action qualifier duration counts times steps b)) (λ b. getD action b 0) m n h
 
-pub actions-below : (c : Chart) (counts times : List ℕ) (steps : Steps) (stored latched : ℕ) → Sound c → Below stored (c .actions) ≡ true → Below latched (c .actions) ≡ true
+actions-below : (c : Chart) (counts times : List ℕ) (steps : Steps) (stored latched : ℕ) → Sound c → Below stored (c .actions) ≡ true → Below latched (c .actions) ≡ true
     → Actions (c .actions) (actedOn c counts times steps stored latched)
 actions-below c counts times steps stored latched s e f =
     acted-below (c .actions) (asked (c .blocks) (c .blockstep) (c .blockaction) (c .qualifier) (c .duration) counts times steps) stored latched
@@ -186,7 +186,7 @@ start-belongs c clock lent h =
 pub cycle-belongs : (c : Chart) (r : Run) (clock inputs lent : ℕ) → cycleOf c r clock inputs lent .code ≡ 0 → belongs c (cycleOf c r clock inputs lent .run) ≡ true
 cycle-belongs c r clock inputs lent h =
     let e = accepted-cycle c r clock inputs lent h in
-    let p = passed c r clock lent e in
+    let p = cycle-passed c r clock lent e in
     rw e (is-own c (cycled c r clock inputs .run) (cycled-own c r clock inputs (sound c (p .chart)) (own c r (p .run))))
 
 -- "A refused start returns an all-zero run, a refused cycle the run it was given, both with no transition taken"

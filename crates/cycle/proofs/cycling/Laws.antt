@@ -1,11 +1,10 @@
 -- From the tests and the parts of a call to its whole answer.
 use Prim.Native.Nat.{ℕ, _≤_, _<_}
 use mathlib.Core.List.{List}
-use mathlib.Core.Bool.{Bool, true, false, cond}
-use mathlib.Core.Path.{_≡_, sym, ap, ap₂, _∙_}
+use mathlib.Core.Bool.{Bool, true, cond}
+use mathlib.Core.Path.{_≡_, refl, sym, ap, ap₂, _∙_}
 use lib.IntN.{ℤ}
-use lib.ListN.{length, replicate}
-use native.Mathlib.Nat.{lt-of-lt-of-le}
+use lib.ListN.{replicate}
 use native.Mathlib.Omega.{arith}
 use lib.Dec.{leb, eqb}
 use borrow.Author.Tests.{leb-true, le-leb, lt-leb, eq-eqb, ne-eqb}
@@ -16,7 +15,7 @@ use Rattle.fields.specs.Fields.{unless}
 use Rattle.chart.specs.Held.{chartCode}
 use Rattle.chart.specs.Initial.{initialSet}
 use Rattle.chart.specs.declared.chart.Chart.{Chart}
-use Rattle.chart.proofs.held.Sound.{Sound, fits}
+use Rattle.chart.proofs.held.Sound.{fits}
 use Rattle.choice.specs.declared.Choice.{Choice}
 use Rattle.acting.specs.declared.Steps.{Steps}
 use Rattle.acting.specs.declared.Acted.{Acted}
@@ -27,7 +26,7 @@ use Rattle.run.specs.declared.run.Run.{Run}
 use Rattle.cycle.specs.Time.{elapsed, grownCounts, grownTimes}
 use Rattle.cycle.specs.Moving.{settledCounters, settledTimers, signalsOf}
 use Rattle.cycle.specs.Choosing.{stepsOf}
-use Rattle.cycle.specs.Cycling.{Settles, refused, cycleCode, actedOn, started, choiceOf, marksAt, cycled, outputsAfter, answered, movedOn, cycleOn}
+use Rattle.cycle.specs.Cycling.{refused, readyCode, lateCode, cycleCode, actedOn, started, choiceOf, marksAt, cycled, outputsAfter, answered}
 use Rattle.cycle.specs.declared.moving.Marks.{Marks}
 use Rattle.cycle.specs.declared.cycling.Cycled.{Cycled}
 
@@ -49,12 +48,6 @@ stops code rest z = rw (ne-eqb code 0 z)
 
 pub goes-on : (code rest : ℕ) → code ≡ 0 → rest ≡ orElse code rest
 goes-on code rest z = rw (eq-eqb code 0 z)
-
-pub other-run : (fit : Bool) (rest : ℕ) → fit ≡ false → 12 ≡ orElse (unless fit 12) rest
-other-run fit rest e = rw e
-
-pub own-run : (fit : Bool) (rest : ℕ) → fit ≡ true → rest ≡ orElse (unless fit 12) rest
-own-run fit rest e = rw e
 
 pub too-late : (e : ℕ) → 60000 < e → 11 ≡ unless (leb e 60000) 11
 too-late e h = rw (lt-leb e 60000 h)
@@ -78,24 +71,36 @@ apart c x r out after e =
     let f : r ≡ x = ap (λ (p : Cycled × List ℤ). p .0) e in
     (f, ap (λ (p : Cycled × List ℤ). p .1) e ∙ ap (λ (o : Cycled). outputsAfter c o out) (sym f))
 
--- a cycle whose tests found nothing is paragraphs 1 to 6
+-- a refusal by its number: the run as it was given, and the outputs untouched
+pub turned-away : (c : Chart) (code n : ℕ) (x r : Cycled) (run : Run) (out : List ℤ) → n ≡ code → (n ≡ 0 → ⊥) → r ≡ refused n run
+    → _≡_ {A = Cycled × List ℤ} (r, out) (answered c out (cond (eqb code 0) x (refused code run)))
+turned-away c code n x r run out e z h =
+    together c (cond (eqb code 0) x (refused code run)) r out out (refused-by code n x r run run e z refl h) (untouched c r n run out h z)
+
+-- what the tests tell that the clock has no part in
 pub record Passed (c : Chart) (r : Run) (lent : ℕ) : Type 0 where
   pub enough : 32 ≤ lent
   pub chart : chartCode c ≡ 0
   pub run : belongs c r ≡ true
 
-pub passed : (c : Chart) (r : Run) (clock lent : ℕ) → cycleCode c r clock lent ≡ 0 → Passed c r lent
-passed c r clock lent e =
+pub passed : (c : Chart) (r : Run) (lent : ℕ) → readyCode c r lent ≡ 0 → Passed c r lent
+passed c r lent e =
     let x = else-zero (unless (leb 32 lent) 15) _ e in
     let y = else-zero (chartCode c) _ (x .1) in
     record {
       enough = leb-true 32 lent (fits (leb 32 lent) 15 (λ z. omega arith) (x .0));
       chart = y .0;
-      run = fits (belongs c r) 12 (λ z. omega arith) (else-zero (unless (belongs c r) 12) _ (y .1) .0);
+      run = fits (belongs c r) 12 (λ z. omega arith) (y .1);
     }
 
-pub moves-on : (c : Chart) (r : Run) (clock inputs : ℕ) (out : List ℤ) → cycleCode c r clock (length out) ≡ 0 → movedOn c r clock inputs out ≡ cycleOn c r clock inputs out
-moves-on c r clock inputs out e = rw e
+-- a cycle that its tests accept passed them
+pub cycle-passed : (c : Chart) (r : Run) (clock lent : ℕ) → cycleCode c r clock lent ≡ 0 → Passed c r lent
+cycle-passed c r clock lent e = passed c r lent (else-zero (readyCode c r lent) (lateCode r clock) e .0)
+
+pub is-ready : (c : Chart) (r : Run) (lent : ℕ) → Passed c r lent → readyCode c r lent ≡ 0
+is-ready c r lent p =
+    let own : ℕ = unless (belongs c r) 12 in
+    sym (goes-on (chartCode c) own (p .chart) ∙ enough (orElse (chartCode c) own) lent (p .enough)) ∙ ap (λ (b : Bool). unless b 12) (p .run)
 
 -- ---- the parts of an accepted start
 
@@ -111,18 +116,6 @@ pub started-as : (c : Chart) (clock i : ℕ) (x : Acted) (cs : List StepCounter)
     }
     ≡ started c clock
 started-as c clock i x cs ts e f g h = rw (h, g, f, e)
-
--- a tested chart and enough outputs serve paragraphs 4 to 6
-pub settles : (c : Chart) (lent : ℕ) → Sound c → 32 ≤ lent → Settles lent (c .actions) (c .output) (c .blocks) (c .blockstep) (c .blockaction)
-settles c lent s h =
-    let l = s .limits in
-    record {
-      enough = h;
-      few = l .actions;
-      driven = s .output;
-      limited = l .blocks;
-      named = λ k q. (lt-of-lt-of-le (s .blockstep k q) (l .steps), lt-of-lt-of-le (s .blockaction k q) (l .actions));
-    }
 
 -- ---- the parts of an accepted cycle
 

@@ -108,3 +108,8 @@ driven-wiped n output value activity out =
     blank : (j : ℕ) → j < 32 → getD (wiped out) j (pos 0) ≡ pos 0
     blank j q =
         List·getD-append (table (λ o. pos 0) 32) (drop 32 out) (pos 0) j (omega (arith, length-table (λ (o : ℕ). pos 0) 32)) ∙ getD-table (λ o. pos 0) 32 j (pos 0) q
+
+-- the outputs are 32
+pub outputs-length : (n : ℕ) (output : List ℕ) (value : List ℤ) (activity : ℕ) → length (outputsOf n output value activity) ≡ 32
+unfolding outputsOf
+outputs-length n output value activity = length-table _ 32

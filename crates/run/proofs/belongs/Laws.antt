@@ -1,16 +1,11 @@
 -- What a run that belongs to a chart is.
-use Prim.Native.Nat.{ℕ, _^_, _<_}
 use mathlib.Core.Bool.{true}
 use mathlib.Core.Path.{_≡_, refl}
-use native.Mathlib.Nat.{lt-of-lt-of-le}
-use lib.Pow.{pow-mono}
 use Rattle.sets.specs.Loops.{all}
 use Rattle.sets.specs.Sets.{Below}
 use Rattle.sets.proofs.Loops.{and-true}
 use Rattle.sets.proofs.Below.{below-zero}
-use Rattle.sets.proofs.Members.{below-lt}
 use Rattle.chart.specs.declared.chart.Chart.{Chart}
-use Rattle.chart.proofs.held.Sound.{Sound}
 use Rattle.run.specs.Run.{noRun}
 use Rattle.run.specs.Belongs.{countersFit, timersFit, belongs}
 use Rattle.run.specs.declared.run.Run.{Run}
@@ -38,10 +33,6 @@ own c r e =
 
 pub is-own : (c : Chart) (r : Run) → Own c r → belongs c r ≡ true
 is-own c r o = rw (o .active, o .activity, o .stored, o .latched, o .good, o .bad, o .counters, o .timers)
-
--- a set of actions fits into 32 bits
-pub actions-fit : (c : Chart) (s : ℕ) → Sound c → Below s (c .actions) ≡ true → s < 2 ^ 64 → s < 2 ^ 32
-actions-fit c s o e h = lt-of-lt-of-le (below-lt s (c .actions) h e) (pow-mono (o .limits .actions))
 
 -- the all-zero run belongs to every chart
 none-counters : countersFit (noRun .counters) 0 ≡ true

@@ -1,25 +1,25 @@
 -- What the blocks passed ask.
-use Prim.Native.Nat.{_≤_, _<_, _-_}
+use Prim.Native.Nat.{_≤_, _-_}
 use mathlib.Core.Path.{_≡_}
 use denote.Ref.{now}
-use lib.ListN.{getD}
 use native.Mathlib.Omega.{arith}
 use borrow.Author.Needs.{needs}
 use native.Mathlib.Nat.{le-antisymm}
 use Rattle.acting.specs.Acting.{asked as so-far}
 use Rattle.acting.proofs.Laws.{none-asked, one-asked}
+use Rattle.cycle.specs.Bounds.{rests}
+use Rattle.cycle.proofs.bounds.Laws.{rest-lt, rest-read}
 use Rattle.cycle.proofs.asking.ask_blocks.Statement.{statement}
 use Rattle.cycle.proofs.asking.ask_blocks.Tie as tie
 
 abbrev Inv-loop : tie.InvT-loop
-Inv-loop n blockstep blockaction qualifier duration counts times steps asked₀ i₀ asked i = (asked ≡ so-far i blockstep blockaction qualifier duration counts times steps) × (i ≤ n)
+Inv-loop n blockstep blockaction qualifier duration counts times steps asked₀ last i₀ asked i = (asked ≡ so-far i (rests 64 blockstep) (rests 32 blockaction) qualifier duration counts times steps) × (i ≤ last)
 
 abbrev μ-loop : tie.MeasureT-loop
-μ-loop n blockstep blockaction qualifier duration counts times steps asked₀ i₀ asked i = n - i
+μ-loop n blockstep blockaction qualifier duration counts times steps asked₀ last i₀ asked i = last - i
 
--- the numbers of a block in hand
-small : (c : tie.In-loop Inv-loop μ-loop) → (getD (now (c .before .before .args .blockstep)) (c .before .loop .i) 0 < 64) × (getD (now (c .before .before .args .blockaction)) (c .before .loop .i) 0 < 32)
-small c = c .before .before .pre .1 (c .before .loop .i) (c .loop-test .taken)
+at-most-requires : tie.Need-at-most-requires Inv-loop μ-loop
+at-most-requires c κs = search needs
 
 loop-holds : tie.Need-loop-holds Inv-loop μ-loop
 loop-holds c = (none-asked _ _ _ _ _ _ _, omega arith)
@@ -61,11 +61,19 @@ loop-again : tie.Need-loop-again Inv-loop μ-loop
 loop-again c =
     let action = c .before .before .before .before in
     let step = action .before .before in
-    let turn = small (step .before .before) in
-    (one-asked _ _ _ _ _ _ _ _ _ _ _ _ _ (turn .0) (turn .1) (step .before .before .before .loop .inv .0) (step .index-of .ensures .0) (action .index-of2 .ensures .0) (c .before .asks .ensures) (c .put .ensures), omega arith)
+    let l = step .before .before .before in
+    let steps = now (l .before .before .args .blockstep) in
+    let actions = now (l .before .before .args .blockaction) in
+    let i = l .loop .i in (
+      one-asked _ _ _ _ _ _ _ _ _ _ _ _ _ (rest-lt 32 actions i (omega arith)) (l .loop .inv .0)
+          (rest-read 64 steps i _ (step .index-of .ensures .0)) (rest-read 32 actions i _ (action .index-of2 .ensures .0)) (c .before .asks .ensures) (c .put .ensures),
+      omega arith,
+    )
 
 returns : tie.Need-returns Inv-loop μ-loop
-returns c = rw (le-antisymm (c .loop-test .left) (c .before .loop .inv .1)) (c .before .loop .inv .0)
+returns c =
+    let l = c .before .loop in
+    rw (← c .before .before .at-most .ensures, le-antisymm (c .loop-test .left) (l .inv .1)) (l .inv .0)
 
 pub ask-blocks-spec : {M : Type 1} → statement M
 ask-blocks-spec =
@@ -73,6 +81,7 @@ ask-blocks-spec =
     (tie.spec
     Inv-loop
     μ-loop
+    at-most-requires
     loop-holds
     element-copy-out-index-of
     index-of-requires

@@ -10,10 +10,13 @@ use Rattle.cycle.proofs.choosing.choose.Statement.{statement}
 use Rattle.cycle.proofs.choosing.choose.Tie as tie
 
 abbrev Inv-loop : tie.InvT-loop
-Inv-loop n sources targets on off wait counts active signals choice₀ t₀ choice t = (choice ≡ turns (choosingAt sources targets on off wait counts active signals) noneTaken t) × (t ≤ n)
+Inv-loop n sources targets on off wait counts active signals choice₀ last t₀ choice t = (choice ≡ turns (choosingAt sources targets on off wait counts active signals) noneTaken t) × (t ≤ last)
 
 abbrev μ-loop : tie.MeasureT-loop
-μ-loop n sources targets on off wait counts active signals choice₀ t₀ choice t = n - t
+μ-loop n sources targets on off wait counts active signals choice₀ last t₀ choice t = last - t
+
+at-most-requires : tie.Need-at-most-requires Inv-loop μ-loop
+at-most-requires c κs = search needs
 
 loop-holds : tie.Need-loop-holds Inv-loop μ-loop
 loop-holds c = (turns-start _ _, omega arith)
@@ -70,6 +73,7 @@ choose-spec =
     (tie.spec
     Inv-loop
     μ-loop
+    at-most-requires
     loop-holds
     mul-choose-one
     element-copy-out-choose-one

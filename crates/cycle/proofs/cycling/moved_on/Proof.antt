@@ -1,13 +1,10 @@
 -- The parts by their statements.
-use Prim.Native.Nat.{_^_, _<_}
 use denote.Ref.{now}
 use borrow.Author.Needs.{needs}
 use Rattle.chart.specs.declared.chart.Chart.{Chart}
-use Rattle.chart.proofs.held.Sound.{Sound, sound}
-use Rattle.run.proofs.belongs.Laws.{Own, own, actions-fit}
+use Rattle.cycle.specs.Bounds.{bounded}
 use Rattle.cycle.specs.Cycling.{chartOf, cycled}
-use Rattle.cycle.proofs.cycling.Kept.{actions-below}
-use Rattle.cycle.proofs.cycling.Laws.{cycled-as, settles, together}
+use Rattle.cycle.proofs.cycling.Laws.{cycled-as, together}
 use Rattle.cycle.proofs.cycling.moved_on.Statement.{statement}
 use Rattle.cycle.proofs.cycling.moved_on.Tie as tie
 
@@ -16,16 +13,6 @@ chart s =
     let a = s .args in
     chartOf (a .steps) (a .actions) (a .transitions) (a .blocks) (a .cases) (now (a .initial)) (now (a .output)) (now (a .value)) (now (a .sources)) (now (a .targets)) (now (a .on)) (now (a .off)) (now (a .wait)) (now (a .blockstep)) (now (a .blockaction)) (now (a .qualifier)) (now (a .duration)) (now (a .casestep)) (now (a .signal)) (now (a .expected))
 
-chart-sound : (s : tie.Start) → Sound (chart s)
-chart-sound s = sound (chart s) (s .pre .0)
-
-run-own : (s : tie.Start) → Own (chart s) (s .args .run)
-run-own s = own (chart s) (s .args .run) (s .pre .1)
-
--- the run's sets are words: a search would not look as far as the twenty-first argument
-words : (s : tie.Start) → (s .args .run .activity < 2 ^ 64) × (s .args .run .latched < 2 ^ 64)
-words s = let run = s .good .1 .1 .1 .1 .1 .1 .1 .1 .1 .1 .1 .1 .1 .1 .1 .1 .1 .1 .1 .1 .0 in (search (needs, run), search (needs, run))
-
 elapsed-requires : tie.Need-elapsed-requires
 elapsed-requires c κs = search needs
 
@@ -33,32 +20,28 @@ grown-counts-requires : tie.Need-grown-counts-requires
 grown-counts-requires c κs = search needs
 
 grown-times-requires : tie.Need-grown-times-requires
-grown-times-requires c κs = let s = c .before .before .before .before in actions-fit (chart s) (s .args .run .latched) (chart-sound s) (run-own s .latched) (words s .1)
+grown-times-requires c κs = search needs
 
 signals-of-requires : tie.Need-signals-of-requires
-signals-of-requires c κs = let s = c .before .before .before .before .before in actions-fit (chart s) (s .args .run .activity) (chart-sound s) (run-own s .activity) (words s .0)
+signals-of-requires c κs = search needs
 
 choose-requires : tie.Need-choose-requires
-choose-requires c κs = chart-sound (c .before .before .before .before .before .before .before) .limits .transitions
+choose-requires c κs = search needs
 
 steps-of-requires : tie.Need-steps-of-requires
 steps-of-requires c κs = search needs
 
 marks-of-requires : tie.Need-marks-of-requires
-marks-of-requires c κs = let s = chart-sound (c .before .before .before .before .before .before .before .before .before) in (s .limits .cases, λ k l. (s .casestep k l, s .signal k l))
+marks-of-requires c κs = search needs
 
 settle-requires : tie.Need-settle-requires
-settle-requires c κs = let s = c .before .before .before .before .before .before .before .before .before .before .before .before .before in settles (chart s) _ (chart-sound s) (s .pre .2)
+settle-requires c κs = search needs
 
 settled-counters-requires : tie.Need-settled-counters-requires
 settled-counters-requires c κs = search needs
 
 settled-timers-requires : tie.Need-settled-timers-requires
-settled-timers-requires c κs =
-    let s = c .before .before .before .before .before .before .before .before .before .before .before .before .before .before .before .before .before .before in
-    let acts = c .before .before .before .before .settle in
-    actions-fit (chart s) (acts .result .latched) (chart-sound s)
-    (rw (acts .ensures .0) (actions-below (chart s) _ _ _ (s .args .run .stored) (s .args .run .latched) (chart-sound s) (run-own s .stored) (run-own s .latched) .latched)) (search needs)
+settled-timers-requires c κs = search needs
 
 joined-requires : tie.Need-joined-requires
 joined-requires c κs = search needs
@@ -82,8 +65,8 @@ returns c =
     let s = timing .before in
     let a = s .args in
     let x = acting .settle .ensures in
-    together (chart s) (cycled (chart s) (a .run) (a .clock) (a .inputs)) _ (now (a .outputs)) _
-    (cycled-as (chart s) (a .run) (a .clock) (a .inputs) _ _ _ _ (choosing .choose .result) (moving .steps-of .result) (marking .marks-of .result) (acting .settle .result) _ _ _ _
+    together (bounded (chart s)) (cycled (bounded (chart s)) (a .run) (a .clock) (a .inputs)) _ (now (a .outputs)) _
+    (cycled-as (bounded (chart s)) (a .run) (a .clock) (a .inputs) _ _ _ _ (choosing .choose .result) (moving .steps-of .result) (marking .marks-of .result) (acting .settle .result) _ _ _ _
     (timing .elapsed .ensures) (counts .grown-counts .ensures) (times .grown-times .ensures) (sensing .signals-of .ensures) (choosing .choose .ensures) (moving .steps-of .ensures)
     (marking .marks-of .ensures) (x .0) (c .before .before .before .before .settled-counters .ensures) (c .before .before .settled-timers .ensures) (c .before .joined .ensures) (c .joined2 .ensures))
     (x .1)

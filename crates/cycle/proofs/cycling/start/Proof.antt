@@ -3,14 +3,12 @@ use mathlib.Core.Path.{_≡_, sym, _∙_}
 use native.Mathlib.Omega.{arith}
 use lib.ListN.{length}
 use denote.Ref.{now}
-use Rattle.sets.proofs.Below.{below-zero}
 use Rattle.chart.specs.Held.{chartCode}
 use Rattle.chart.proofs.held.Sound.{Sound, sound}
 use Rattle.run.specs.Run.{noRun}
-use Rattle.run.proofs.belongs.Laws.{actions-fit}
 use Rattle.cycle.specs.Cycling.{refused, startCode, started}
-use Rattle.cycle.proofs.cycling.Laws.{few, enough, refused-by, accepted-by, untouched, started-as, settles}
-use Rattle.cycle.proofs.cycling.Kept.{actions-below}
+use Rattle.cycle.proofs.cycling.Laws.{few, enough, refused-by, accepted-by, untouched, started-as}
+use Rattle.cycle.proofs.bounds.Sound.{acted-bounded, outputs-bounded}
 use borrow.Author.Needs.{needs}
 use Rattle.cycle.proofs.cycling.start.Statement.{statement}
 use Rattle.cycle.proofs.cycling.start.Tie as tie
@@ -65,20 +63,13 @@ initial-of-requires : tie.Need-initial-of-requires
 initial-of-requires c κs = search needs
 
 settle-requires : tie.Need-settle-requires
-settle-requires c κs =
-    let held = c .before .before .before .before .before .before .before .before .before .before .before .before .before in
-    settles (call held .args .t1) _ (chart-sound held) (lent held .if1 .left)
+settle-requires c κs = search needs
 
 settled-counters-requires : tie.Need-settled-counters-requires
 settled-counters-requires c κs = search needs
 
 settled-timers-requires : tie.Need-settled-timers-requires
-settled-timers-requires c κs =
-    let acting = c .before .before .before .before in
-    let held = acting .before .before .before .before .before .before .before .before .before .before .before .before .before .before in
-    let chart = call held .args .t1 in
-    actions-fit chart (acting .settle .result .latched) (chart-sound held)
-    (rw (acting .settle .ensures .0) (actions-below chart _ _ _ 0 0 (chart-sound held) (below-zero (chart .actions)) (below-zero (chart .actions)) .latched)) (search needs)
+settled-timers-requires c κs = search needs
 
 same-length : tie.Need-same-length
 same-length c = search needs
@@ -92,8 +83,8 @@ returns-3 c =
     let s = acting .settle .ensures in (
       accepted-by _ (started (a .t1) (a .clock)) (refused (startCode (a .t1) (length (now (a .outputs)))) noRun) _
           (sym (chart-zero held) ∙ enough _ _ (lent held .if1 .left))
-          (started-as (a .t1) (a .clock) _ (acting .settle .result) _ _ (initial .initial-of .ensures) (s .0) (c .before .before .settled-counters .ensures) (c .settled-timers .ensures)),
-      s .1,
+          (started-as (a .t1) (a .clock) _ (acting .settle .result) _ _ (initial .initial-of .ensures) (s .0 ∙ acted-bounded (a .t1) (chart-sound held) _ _ _ 0 0) (c .before .before .settled-counters .ensures) (c .settled-timers .ensures)),
+      rw (outputs-bounded (a .t1) (chart-sound held) (acting .settle .result .activity)) at (s .1),
     )
 
 pub start-spec : {M : Type 1} → statement M

@@ -1,5 +1,4 @@
 -- By membership.
-use native.Mathlib.Nat.{mod-eq-of-lt}
 use borrow.Author.Needs.{needs}
 use Rattle.cycle.proofs.moving.as_expected.Statement.{statement}
 use Rattle.cycle.proofs.moving.as_expected.Tie as tie
@@ -8,7 +7,7 @@ is-in-mod-requires : tie.Need-is-in-mod-requires
 is-in-mod-requires c κs = search needs
 
 returns : tie.Need-returns
-returns c = rw (c .is-in-mod .ensures, mod-eq-of-lt (c .before .pre))
+returns c = rw (c .is-in-mod .ensures)
 
 pub as-expected-spec : {M : Type 1} → statement M
 as-expected-spec = tie.close (tie.spec is-in-mod-requires returns)

@@ -1,26 +1,26 @@
 -- The cases passed that are good, and that are bad.
-use Prim.Native.Nat.{ℕ, _≤_, _<_, _-_}
+use Prim.Native.Nat.{ℕ, _≤_, _-_}
 use mathlib.Core.Path.{ap₂, _∙_}
 use mathlib.Core.Logic.{⊎-elim}
 use denote.Ref.{now}
 use native.Mathlib.Omega.{arith}
 use borrow.Author.Needs.{needs}
 use native.Mathlib.Nat.{le-antisymm}
-use lib.ListN.{getD}
+use Rattle.cycle.specs.Bounds.{rests}
 use Rattle.cycle.specs.Moving.{marksOf}
+use Rattle.cycle.proofs.bounds.Laws.{rest-read}
 use Rattle.cycle.proofs.moving.Laws.{Marked, none-marked, one-marked, one-passed}
 use Rattle.cycle.proofs.moving.marks_of.Statement.{statement}
 use Rattle.cycle.proofs.moving.marks_of.Tie as tie
 
 abbrev Inv-loop : tie.InvT-loop
-Inv-loop n step signal expected left signals good₀ bad₀ i₀ good bad i = Marked step signal expected left signals i good bad × (i ≤ n)
+Inv-loop n step signal expected left signals good₀ bad₀ last i₀ good bad i = Marked (rests 64 step) (rests 64 signal) expected left signals i good bad × (i ≤ last)
 
 abbrev μ-loop : tie.MeasureT-loop
-μ-loop n step signal expected left signals good₀ bad₀ i₀ good bad i = n - i
+μ-loop n step signal expected left signals good₀ bad₀ last i₀ good bad i = last - i
 
--- the numbers of a case in hand
-small : (c : tie.In-loop Inv-loop μ-loop) → (getD (now (c .before .before .args .step)) (c .before .loop .i) 0 < 64) × (getD (now (c .before .before .args .signal)) (c .before .loop .i) 0 < 64)
-small c = c .before .before .pre .1 (c .before .loop .i) (c .loop-test .taken)
+at-most-requires : tie.Need-at-most-requires Inv-loop μ-loop
+at-most-requires c κs = search needs
 
 loop-holds : tie.Need-loop-holds Inv-loop μ-loop
 loop-holds c = (none-marked _ _ _ _ _, omega arith)
@@ -44,7 +44,7 @@ element-copy-out-as-expected : tie.Need-element-copy-out-as-expected Inv-loop μ
 element-copy-out-as-expected c = omega arith
 
 as-expected-requires : tie.Need-as-expected-requires Inv-loop μ-loop
-as-expected-requires c κs = omega (arith, c .before .index-of2 .ensures .0, small (c .before .before .before .before .before .before .before) .1)
+as-expected-requires c κs = search needs
 
 with-if-mod-requires : tie.Need-with-if-mod-requires Inv-loop μ-loop
 with-if-mod-requires c κs = search needs
@@ -60,12 +60,13 @@ loop-less c = omega arith
 
 loop-again : tie.Need-loop-again Inv-loop μ-loop
 loop-again c =
-    let l = c .before .before .before .before .before .loop in
-    let e = c .before .before .index-of .ensures .0 in
-    let b : c .before .before .index-of .result < 64 = omega (arith, e, small (c .before .before .before .before) .0) in
+    let l = c .before .before .before .before .before in
+    let s = l .before .before in
+    let e = rest-read 64 (now (s .args .step)) (l .loop .i) _ (c .before .before .index-of .ensures .0) in
     let o = c .before .is-in-mod .ensures in (
-      ⊎-elim (λ w. one-marked _ _ _ _ _ _ _ _ _ _ _ _ (omega arith) (l .inv .0) e b o _ _ (w .0 .taken) (w .2 .ensures .0) (w .4 .ensures) (w .7 ∙ w .5 .ensures) (w .8 ∙ w .6 .ensures))
-          (λ w. one-passed _ _ _ _ _ _ _ _ _ _ _ _ (omega arith) (l .inv .0) e b o (w .0 .left) (w .1) (w .2)) (c .if1 .came),
+      ⊎-elim (λ w. one-marked _ _ _ _ _ _ _ _ _ _ _ _ (omega arith) (l .loop .inv .0) e o _ _ (w .0 .taken)
+          (rest-read 64 (now (s .args .signal)) (l .loop .i) _ (w .2 .ensures .0)) (w .4 .ensures) (w .7 ∙ w .5 .ensures) (w .8 ∙ w .6 .ensures))
+          (λ w. one-passed _ _ _ _ _ _ _ _ _ _ _ _ (omega arith) (l .loop .inv .0) e o (w .0 .left) (w .1) (w .2)) (c .if1 .came),
       omega arith,
     )
 
@@ -73,7 +74,8 @@ returns : tie.Need-returns Inv-loop μ-loop
 unfolding marksOf
 returns c =
     let l = c .before .loop in
-    rw (le-antisymm (c .loop-test .left) (l .inv .1)) (ap₂ (λ (x y : ℕ). record { good = x; bad = y }) (l .inv .0 .goods) (l .inv .0 .bads))
+    rw (← c .before .before .at-most .ensures, le-antisymm (c .loop-test .left) (l .inv .1))
+    (ap₂ (λ (x y : ℕ). record { good = x; bad = y }) (l .inv .0 .goods) (l .inv .0 .bads))
 
 pub marks-of-spec : {M : Type 1} → statement M
 marks-of-spec =
@@ -81,6 +83,7 @@ marks-of-spec =
     (tie.spec
     Inv-loop
     μ-loop
+    at-most-requires
     loop-holds
     element-copy-out-index-of
     index-of-requires

@@ -5,7 +5,7 @@ use Rattle.cycle.proofs.moving.signals_of.Statement.{statement}
 use Rattle.cycle.proofs.moving.signals_of.Tie as tie
 
 returns : tie.Need-returns
-returns c = or-shl-signals (c .args .inputs) (c .args .activity) (search needs) (c .pre)
+returns c = or-shl-signals (c .args .inputs) (c .args .activity) (search needs)
 
 pub signals-of-spec : {M : Type 1} → statement M
 signals-of-spec = tie.close (tie.spec returns)

@@ -1,6 +1,8 @@
 -- Wiped, then driven.
+use Prim.Native.Nat.{min}
 use mathlib.Core.Path.{_∙_}
 use denote.Ref.{now}
+use Rattle.cycle.specs.Bounds.{rests}
 use Rattle.cycle.proofs.outputs.Laws.{driven-wiped}
 use borrow.Author.Needs.{needs}
 use Rattle.cycle.proofs.outputs.write_outputs.Statement.{statement}
@@ -18,7 +20,7 @@ same-length c = search needs
 returns : tie.Need-returns
 returns c =
     let s = c .before .before .before .before .before .before in
-    c .before .drive .ensures ∙ rw (c .before .before .before .before .wipe .ensures) (driven-wiped (s .args .n) (now (s .args .output)) (now (s .args .value)) (s .args .activity) (now (s .args .out)))
+    c .before .drive .ensures ∙ rw (c .before .before .before .before .wipe .ensures) (driven-wiped (min (s .args .n) 32) (rests 32 (now (s .args .output))) (now (s .args .value)) (s .args .activity) (now (s .args .out)))
 
 pub write-outputs-spec : {M : Type 1} → statement M
 write-outputs-spec = tie.close (tie.spec wipe-requires drive-requires same-length returns)

@@ -2,7 +2,7 @@
 use native.Mathlib.Omega.{arith}
 use lib.ListN.{getD}
 use borrow.Author.Needs.{needs}
-use Rattle.sets.proofs.Visits.{Filled, filled-start, filled-turn, filled-end, visit-lt, visit-less}
+use Rattle.sets.proofs.Visits.{Filled, filled-rest, filled-turn, filled-end, visit-lt, visit-less}
 use Rattle.run.specs.Run.{timer}
 use Rattle.cycle.specs.Time.{grownTime}
 use Rattle.cycle.proofs.time.grown_times.Statement.{statement}
@@ -15,7 +15,7 @@ abbrev μ-loop : tie.MeasureT-loop
 μ-loop latched e held out₀ rest₀ out rest = rest
 
 loop-holds : tie.Need-loop-holds Inv-loop μ-loop
-loop-holds c = filled-start (omega arith) (search needs) (λ j n. rw n)
+loop-holds c = filled-rest (omega arith) (λ j n. rw n)
 
 first-requires : tie.Need-first-requires Inv-loop μ-loop
 first-requires c κs = search needs
