@@ -28,6 +28,7 @@ use Rattle.cycle.specs.Moving.{marksOf}
 use Rattle.cycle.specs.Outputs.{first, outputsOf}
 use Rattle.cycle.specs.Cycling.{startOf, cycleOf, outputsAfter}
 use Rattle.cycle.specs.declared.cycling.Cycled.{Cycled}
+use Rattle.shift.specs.Shifting.{Done, singly, shiftOf}
 use Rattle.tally.specs.Tallying.{tallyOf}
 use Rattle.tally.specs.Weighing.{weightIn, unbalanced, weighOf}
 use Rattle.claims.specs.Runs.{Call, after, begun}
@@ -133,3 +134,11 @@ brake =
 pub brake-total : weighOf brake (3 ∷ 2 ∷ 2 ∷ 1 ∷ 1 ∷ []) ≡ record { code = 0; transition = 0; total = 3 }
 unfolding all some summed firstCode collect stepsCode actionsCode transitionsCode transitionCode blocksCode casesCode someInitial timedTwice heldCode initialSet weightIn unbalanced
 brake-total = refl
+
+-- a shift of three calls, L 10 at 9 and at 10 and then a clock one back: it stops there, with activity 1 and 0, and the third word stays
+abbrev stopped : Done
+stopped = shiftOf (timed L 10) (began (timed L 10) 0) (9 ∷ 10 ∷ 9 ∷ []) (0 ∷ 0 ∷ 0 ∷ []) (7 ∷ 7 ∷ 7 ∷ []) (replicate 32 (pos 9))
+
+pub shift-stops : (stopped .0 .code ≡ 11) × (stopped .0 .accepted ≡ 2) × (stopped .0 .run .clock ≡ 10) × (stopped .1 ≡ 1 ∷ 0 ∷ 7 ∷ []) × (getD (stopped .2) 0 (pos 9) ≡ pos 0)
+unfolding all some summed firstCode tableFrom turns collect stepsCode actionsCode transitionsCode transitionCode blocksCode casesCode someInitial timedFor timedTwice heldCode chosen marksOf initialSet asked acted first outputsOf singly
+shift-stops = (refl, refl, refl, refl, refl)

@@ -43,6 +43,8 @@ use Rattle.cycle.specs.Time.{elapsed}
 use Rattle.cycle.specs.Cycling.{readyCode, startOf, cycleOf, outputsAfter, cycleOn, cycleTested}
 use Rattle.cycle.specs.declared.cycling.Cycled.{Cycled}
 use Rattle.cycle.proofs.Unique.{start-unique, cycle-unique, cycle-on-unique, ready-code-unique, cycle-tested-unique, elapsed-unique}
+use Rattle.shift.specs.Shifting.{Done, shiftOf}
+use Rattle.shift.proofs.Unique.{shift-unique}
 use Rattle.trace.specs.Tracing.{callAt, numberOf, traceNumber}
 use Rattle.trace.specs.declared.tracing.Call.{Call}
 use Rattle.trace.proofs.Unique.{call-at-unique}
@@ -147,6 +149,10 @@ pub record CycleUnique : Type 0 where
   pub cycle-tested : (lent : Chart) (run : Run) (clock inputs : ℕ) (outputs : List ℤ) → One (λ (r : Cycled × List ℤ). r ≡ cycleTested lent run clock inputs outputs)
   pub elapsed : (last new : ℕ) → One (λ (r : ℕ). r ≡ elapsed last new)
 
+-- shift/src: shifting
+pub record ShiftUnique : Type 0 where
+  pub shift : (chart : Chart) (run : Run) (clocks inputs words : List ℕ) (outputs : List ℤ) → One (λ (r : Done). r ≡ shiftOf chart run clocks inputs words outputs)
+
 -- trace/src: tracing
 pub record TraceUnique : Type 0 where
   pub call-at : (trace : List ℕ) (at : ℕ) → One (λ (r : Call). (r ≡ callAt trace at) × (numberOf r ≡ traceNumber trace at))
@@ -175,6 +181,7 @@ pub record Unique : Type 0 where
   pub acting : ActingUnique
   pub run : RunUnique
   pub cycle : CycleUnique
+  pub shift : ShiftUnique
   pub trace : TraceUnique
   pub tally : TallyUnique
   pub writer : WriterUnique
@@ -243,6 +250,7 @@ unique = record {
     cycle-tested = cycle-tested-unique;
     elapsed = elapsed-unique;
   };
+  shift = record { shift = shift-unique };
   trace = record { call-at = call-at-unique };
   tally = record { tally = tally-unique; weigh = weigh-unique };
   writer = record { write-chart = write-chart-unique };

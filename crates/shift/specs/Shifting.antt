@@ -1,0 +1,55 @@
+-- Document 02, request (iii): "The rig computer collects up to 4,096 cycles and hands them over at once, clocks and inputs in two lent lists, and
+-- wants the activity word of each in a third. The result equals the calls made singly. It stops at the first refused cycle and returns the number
+-- accepted and the run there, with the outputs of the last accepted cycle, untouched if there was none. Activity words behind that number stay.
+-- Refusals: 15, chart, 12, then 18 when the three lists differ in length or exceed 4,096, all before any cycle, with 0 accepted and nothing
+-- written; then 11, at its place."
+use Prim.Native.Nat.{ℕ, suc}
+use mathlib.Core.List.{List}
+use mathlib.Core.Bool.{Bool, _&&_, cond}
+use lib.IntN.{ℤ}
+use lib.ListN.{length, getD, set}
+use lib.Dec.{leb, eqb}
+use Rattle.sets.specs.Loops.{orElse, turns}
+use Rattle.fields.specs.Fields.{unless}
+use Rattle.chart.specs.declared.chart.Chart.{Chart}
+use Rattle.run.specs.declared.run.Run.{Run}
+use Rattle.cycle.specs.declared.cycling.Cycled.{Cycled}
+use Rattle.cycle.specs.Cycling.{readyCode, cycleOn}
+use Rattle.shift.specs.declared.shifting.Shifted.{Shifted}
+
+-- a shift's answer, its activity words and its outputs
+abbrev pub Done : Type 0
+Done = Shifted × List ℕ × List ℤ
+
+abbrev pub answerOf : ℕ → ℕ → Run → Shifted
+answerOf code accepted run = record { code = code; accepted = accepted; run = run }
+
+-- what there is with the cycle's answer to call k and the outputs that it leaves: "the number accepted and the run there"
+abbrev pub called : ℕ → List ℕ → Cycled × List ℤ → Done
+called k words (o, out) =
+    cond (eqb (o .code) 0)
+    (answerOf 0 (suc k) (o .run), set words k (o .run .activity), out)
+    (answerOf (o .code) k (o .run), words, out)
+
+-- call k, made singly, unless one before it was refused
+abbrev pub onward : Chart → List ℕ → List ℕ → ℕ → Done → Done
+onward c clocks inputs k d =
+    cond (eqb (d .0 .code) 0) (called k (d .1) (cycleOn c (d .0 .run) (getD clocks k 0) (getD inputs k 0) (d .2))) d
+
+-- the first n calls, made singly
+unfoldable pub singly : Chart → Run → List ℕ → List ℕ → List ℕ → List ℤ → ℕ → Done
+singly c r clocks inputs words out n = turns (onward c clocks inputs) (answerOf 0 0 r, words, out) n
+
+-- "18 when the three lists differ in length or exceed 4,096"
+abbrev pub listsFit : ℕ → ℕ → ℕ → Bool
+listsFit clocks inputs words = eqb clocks inputs && eqb clocks words && leb clocks 4096
+
+-- "15, chart, 12, then 18"
+abbrev pub shiftCode : Chart → Run → ℕ → ℕ → ℕ → ℕ → ℕ
+shiftCode c r lent clocks inputs words = orElse (readyCode c r lent) (unless (listsFit clocks inputs words) 18)
+
+-- "all before any cycle, with 0 accepted and nothing written"
+abbrev pub shiftOf : Chart → Run → List ℕ → List ℕ → List ℕ → List ℤ → Done
+shiftOf c r clocks inputs words out =
+    cond (eqb (shiftCode c r (length out) (length clocks) (length inputs) (length words)) 0) (singly c r clocks inputs words out (length clocks))
+    (answerOf (shiftCode c r (length out) (length clocks) (length inputs) (length words)) 0 r, words, out)

@@ -1,0 +1,6 @@
+// A whole shift of cycles in one call (document 02, request iii).
+pub mod codes;
+pub mod shifting;
+
+pub use shifting::Shifted;
+pub use shifting::shift;
