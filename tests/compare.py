@@ -1,13 +1,13 @@
 #!/usr/bin/env python3
-"""The engine against a second implementation of document 01 and of requests (i) and (ii) (tests/second.rs), on random charts,
+"""The engine against a second implementation of document 01 and of requests (i) to (iii) (tests/second.rs), on random charts,
 traces and held images.
 
   tests/compare.py [--seed N] [--cases N]
 
 Run it after `rt check`, which builds the programs. bench_run prints one run for each of N random charts and traces, held_calls
-answers 5 N calls on random images and N writings of images with junk beyond their counts, read_charts reads 2 N faulty files, and
-write_back writes N files back; the second implementation does the same, and all that they write must be equal. A case depends on the
-seed and its own number alone. What the cases reached is counted from what was written, and a run that did not reach each thing in
+answers 5 N calls on random images, N writings of images with junk beyond their counts and N shifts, which the second implementation
+makes call by call, read_charts reads 2 N faulty files, and write_back writes N files back; the second implementation does the same, and
+all that they write must be equal. A case depends on the seed and its own number alone. What the cases reached is counted from what was written, and a run that did not reach each thing in
 NEEDED fails, since its equal answers say nothing of that.
 """
 import argparse
@@ -31,9 +31,11 @@ from read_charts import D, DAY, DS, END, L, N, P, P0, P1, R, ROOT, S, SD, SL, re
 NAMES = ("N", "R", "S", "L", "D", "P", "SD", "DS", "SL", "P1", "P0")
 TIMED, UNTIMED = (L, D, SD, DS, SL), (N, R, S, P, P1, P0)
 TURN = 2**32
+# lengths of shifts, and the numbers of those that were judged by their length
+SHIFTS = {0: (0,), 1: (0, 11), 4096: (0, 11), 4097: (18,)}
 RUN_NAMES = [name for name, _, _ in held.RUN]
 NEEDED = (
-    [f"refused {code}" for code in range(1, 18)]
+    [f"refused {code}" for code in range(1, 19)]
     + [f"{NAMES[q]} active" for q in range(11) if q != R] + [f"{NAMES[q]} not active" for q in TIMED + (P, P1)] + ["R resets"]
     + ["P not active at leaving", "transitions taken", "forks taken", "joins taken", "two taken in one call"]
     + [f"{NAMES[q]} {when}" for q in TIMED for when in ("at its duration", "one ms before")]
@@ -41,6 +43,8 @@ NEEDED = (
     + [f"{name} {side}" for name, _, _ in held.CHART + held.RUN if name not in ("value", "clock") for side in ("at its limit", "above it")]
     + ["passed", "failed", "not run", "accepted at 60,000 ms", "clock turned", "balanced"]
     + ["written", "written into its length", "written into more", "one byte too few", "written back", "not written back"]
+    + [f"shift refused {where}" for where in ("at its beginning", "in its middle", "at its end", "nowhere")]
+    + [f"shift of {many:,}" for many in SHIFTS]
 )
 
 
@@ -419,6 +423,35 @@ def writing_case(seed, number):
     return len(file), lent, held.request(image, held.empty(held.RUN), held.WRITING, lent)
 
 
+def shift_clocks(rng, last, many, due):
+    """Clocks of which none is refused, or one: the first, the last or one between, mostly with others behind it that would not be."""
+    calls, found = [last], []
+    for _ in range(many):
+        clock = clock_after(rng, last, calls, due)
+        last = clock if 0 <= clock - last <= 60_000 else last + rng.randint(0, 50)
+        calls.append(last)
+        found.append(last % TURN)
+    where = rng.choice((None, None, 0, many // 2, many - 1))
+    if where is not None and found:
+        found[where] = (calls[where] + rng.choice((-1, 60_001, rng.randint(60_001, TURN - 1)))) % TURN
+    return found
+
+
+def shift_case(seed, number):
+    """The number of clocks, and the request: an image and a run, mostly as they should be, and lists mostly of one length."""
+    rng = random.Random(f"shift {seed} {number}")
+    chart = random_chart(rng)
+    image, run_image = held.chart_image(b"".join(records(chart))), random_run(rng, chart, 0, rng.choice(chart[3] or [None]))
+    many = {0: 4096, 1: 4097, 2: 4096}.get(number, rng.choice((0, 1, 2, rng.randint(3, 12), rng.randint(13, 60))))
+    clocks = shift_clocks(rng, run_image["clock"][0], many, due_times(chart))
+    if rng.random() < 0.15 and number > 2:
+        layout, target = rng.choice(((held.CHART, image), (held.RUN, run_image)))
+        alter_image(rng, layout, target, [len(chart[kind]) for kind in chart])
+    more, words = (max(0, many + rng.choice((0,) * 18 + (-1, 1))) for _ in range(2)) if number > 2 else (many, many)
+    lent = rng.choice((32,) * 18 + (31, 0, 33, 255)) if number > 2 else 32
+    return many, held.shift_request(image, run_image, clocks, [inputs_for(rng, chart) for _ in range(more)], words, lent)
+
+
 def back_case(seed, number):
     rng = random.Random(f"back {seed} {number}")
     chart = random_chart(rng)
@@ -614,6 +647,21 @@ def compare_written(seed, many, second, reached):
         reached["written into more"] += code == 0 and lent > length
 
 
+def compare_shifts(seed, many, second, reached):
+    cases = [shift_case(seed, number) for number in range(many)]
+    lines = compare_lines(seed, "held_calls", second, "held", [(request, request) for _, request in cases])
+    for (length, _), line in zip(cases, lines):
+        code, accepted = map(int, line.split()[:2])
+        reached[f"refused {code}" if code else "shifts accepted"] += 1
+        reached["cycles of shifts"] += accepted
+        reached["shift refused nowhere"] += code == 0 < length
+        reached["shift refused at its beginning"] += code == 11 and accepted == 0 < length - 1
+        reached["shift refused in its middle"] += code == 11 and 0 < accepted < length - 1
+        reached["shift refused at its end"] += code == 11 and 0 < accepted == length - 1
+        if length in SHIFTS:
+            reached[f"shift of {length:,}"] += code in SHIFTS[length]
+
+
 def compare_files(seed, name, second, mode, files):
     """Files through a program that takes their lengths in two bytes; the second implementation takes them in four."""
     return compare_lines(seed, name, second, mode, [(struct.pack("<H", len(file)) + file, struct.pack("<I", len(file)) + file) for file in files])
@@ -641,6 +689,7 @@ def main():
         compare_back(asked.seed, asked.cases, second, reached)
         compare_held(asked.seed, 5 * asked.cases, second, reached)
         compare_written(asked.seed, asked.cases, second, reached)
+        compare_shifts(asked.seed, asked.cases, second, reached)
         compare_printed(asked.seed, asked.cases, second, reached)
     counts = "; ".join(f"{name}: {reached[name]}" for name in [*NEEDED, *sorted(set(reached) - set(NEEDED))])
     print(textwrap.fill(counts, 140, break_long_words=False))
@@ -648,7 +697,7 @@ def main():
     if missing:
         sys.exit(f"compare: seed {asked.seed} never reached: {', '.join(missing)}")
     print(f"compare: seed {asked.seed}, no difference in {2 * asked.cases} files read, {asked.cases} written back, {5 * asked.cases} held calls, "
-          f"{asked.cases} held charts written, {asked.cases} printed runs")
+          f"{asked.cases} held charts written, {asked.cases} shifts, {asked.cases} printed runs")
 
 
 if __name__ == "__main__":

@@ -8,11 +8,13 @@ Each case is an image of a chart, an image of a run and a call, and its line. Th
 nothing here runs the engine. tests/compare.py makes its images with the functions below.
 
 Images, the least byte of each number first: every field of the chart and of the run in full length, as the tables CHART and RUN
-have them. The call: kind (0 start, 1 cycle, 2 tally, 3 weighing, 4 writing), clock, inputs, number of lent outputs, number of
-weights, and the weights; of a writing, the clock is the number of lent bytes. Before the call lent output k holds 1000 + k, and
-lent byte k holds k % 251. A line of start or cycle: code, transitions taken, clock, active, activity, stored, latched, good, bad,
-64 step counters, 32 action timers, the lent outputs; of a tally: code, passed, failed, not run; of a weighing: code, transition,
-total; of a writing: code, length, the lent bytes.
+have them. The call: kind (0 start, 1 cycle, 2 tally, 3 weighing, 4 writing, 5 shift), clock, inputs, number of lent outputs,
+number of weights, and the weights; of a writing, the clock is the number of lent bytes; of a shift, the clock's halves are the
+numbers of clocks and of inputs, the inputs' lower half that of lent activity words, and its clocks and inputs follow. Before the
+call lent output k holds 1000 + k, lent byte k holds k % 251, and activity word k holds 2^32 + k. A line of start or cycle: code,
+transitions taken, clock, active, activity, stored, latched, good, bad, 64 step counters, 32 action timers, the lent outputs; of a
+tally: code, passed, failed, not run; of a weighing: code, transition, total; of a writing: code, length, the lent bytes; of a
+shift: code, accepted cycles, then as of a cycle, and the activity words.
 """
 import struct
 import sys
@@ -20,7 +22,7 @@ import sys
 sys.dont_write_bytecode = True  # leave no folder beside read_charts.py
 from read_charts import CHART_A, DAY, END, action, case, step, store  # noqa: E402
 
-START, CYCLE, TALLY, WEIGHING, WRITING = range(5)
+START, CYCLE, TALLY, WEIGHING, WRITING, SHIFT = range(6)
 LIMITS = {"steps": 64, "actions": 32, "transitions": 64, "blocks": 256, "cases": 64}
 
 # name, form, how many
@@ -81,6 +83,11 @@ def request(chart, run, kind, clock=0, inputs=0, lent=32, weights=()):
     return packed(CHART, chart) + packed(RUN, run) + call
 
 
+def shift_request(chart, run, clocks, inputs, words, lent=32):
+    lists = struct.pack(f"<{len(clocks)}I{len(inputs)}I", *clocks, *inputs)
+    return request(chart, run, SHIFT, len(clocks) | len(inputs) << 16, words, lent) + lists
+
+
 # Lines
 
 A, STILL = chart_image(CHART_A), empty(RUN)
@@ -133,6 +140,14 @@ def writing(code, lent, file=b"", chart=NONE):
     left = [k % 251 for k in range(lent)]
     text = " ".join(map(str, [code, len(file), *file, *left[len(file):]]))
     CASES.append((request(altered(A, chart), STILL, WRITING, clock=lent), text))
+
+
+def shift(code, clocks, inputs, words=None, run=BEGUN, chart=NONE, lent=32, found=(), after=None, driven=None):
+    """The activity words found and the run after them; those behind stay. Nothing found leaves run, outputs and words."""
+    words = len(clocks) if words is None else words
+    left = [*found, *(2**32 + k for k in range(len(found), words))]
+    text = " ".join([line(code, len(found), after or run, lent, driven), *map(str, left)])
+    CASES.append((shift_request(altered(A, chart), run, clocks, inputs, words, lent), text))
 
 
 # The printed run of chart A, call by call; step 0 has no active action, step 1 drives output 0 by action 0, value 120
@@ -219,6 +234,34 @@ writing(0, 14, step(1) + step(0) + END, FEW)
 writing(17, 13, chart=FEW)
 writing(0, 40, step(1) + step(0) + action(31, -2) + case(1, 32, 0) + END,
         FEW | {"actions": 1, "cases": 1, ("output", 0): 31, ("value", 0): -2, ("signal", 0): 32, ("expected", 0): 0})
+
+# a shift of chart A's two calls, and of the first alone: activity 3 in step 1, none in step 0
+shift(0, [1010, 1510], [1, 2], found=[3, 0], after=BACK, driven=NONE)
+shift(0, [1010], [1], found=[3], after=IN_1, driven={0: 120})
+shift(0, [1010], [1], lent=64, found=[3], after=IN_1, driven={0: 120})
+# none is accepted, and leaves all as it was
+shift(0, [], [])
+# "It stops at the first refused cycle": at the beginning, in the middle, at the end; what follows it would be accepted
+shift(11, [999, 1010, 1510], [1, 1, 2])
+shift(11, [1010, 1009, 1510], [1, 2, 2], found=[3], after=IN_1, driven={0: 120})
+shift(11, [1010, 1510, 61_511], [1, 2, 0], found=[3, 0], after=BACK, driven=NONE)
+shift(11, [61_001], [1])
+# 4,096 cycles of one millisecond in step 0, without an input, and one more
+WAITED = altered(BEGUN, {"clock": 5096, ("counters", 0): 4096})
+shift(0, range(1001, 5097), [0] * 4096, found=[0] * 4096, after=WAITED, driven=NONE)
+shift(11, [*range(1001, 5096), 5094], [0] * 4096, found=[0] * 4095, after=altered(BEGUN, {"clock": 5095, ("counters", 0): 4095}), driven=NONE)
+shift(18, range(1001, 5098), [0] * 4097)
+# 18 "when the three lists differ in length", before 11
+for many, more, words in ((2, 1, 2), (1, 2, 1), (2, 2, 1), (1, 1, 2), (0, 1, 0), (0, 0, 1), (1, 0, 0)):
+    shift(18, [999] * many, [1] * more, words)
+# "15, chart, 12, then 18", whatever the lists
+OTHER = altered(BEGUN, {"active": 4})
+shift(15, [1010], [], run=OTHER, chart={"steps": 65}, lent=31)
+shift(4, [1010], [], run=OTHER, chart={"steps": 65})
+shift(8, [], [], chart={("qualifier", 1): 3, ("qualifier", 2): 8})
+shift(12, [1010], [], run=OTHER)
+shift(12, [], [], run=OTHER)
+shift(15, [], [], lent=0)
 
 if __name__ == "__main__":
     assert len(CASES[0][0]) == 4552 + 436 + 11

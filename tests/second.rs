@@ -1,8 +1,9 @@
 // A second engine for the chart, its cycle and its tally, written from document 01 alone, with the
-// writer of charts from request (i) of document 02 and the rule for P from request (ii). No other
-// request of document 02 is followed. Words in quotation marks above a function are sentences of
-// document 01, or of request (i) or (ii) where that is said. A function that only serves the
-// command line says so instead, since none of them speaks of that.
+// writer of charts from request (i) of document 02, the rule for P from request (ii) and the whole
+// shift in one call from request (iii). No other request of document 02 is followed. Words in
+// quotation marks above a function are sentences of document 01, or of request (i), (ii) or (iii)
+// where that is said. A function that only serves the command line says so instead, since none of
+// them speaks of that.
 
 use std::collections::BTreeSet;
 use std::io::{Read, Write};
@@ -1105,6 +1106,78 @@ fn written_case(case: &Case) -> Vec<u8> {
 }
 
 // ---------------------------------------------------------------------------------------------
+// A whole shift in one call (request (iii) of document 02)
+// ---------------------------------------------------------------------------------------------
+
+// Request (iii): "returns the number accepted and the run there" (with the number of refusal, 0 if
+// all were accepted)
+struct Shift {
+    code: Code,
+    accepted: u64,
+    run: Run,
+}
+
+// Request (iii): "The rig computer collects up to 4,096 cycles and hands them over at once, clocks
+// and inputs in two lent lists, and wants the activity word of each in a third."; "... all before
+// any cycle, with 0 accepted and nothing written" (the run is then the one given)
+fn shift(
+    held: &Held,
+    run: &Run,
+    clocks: &[u32],
+    inputs: &[u32],
+    words: &mut [u64],
+    outputs: &mut [i32],
+) -> Shift {
+    let lengths = [clocks.len(), inputs.len(), words.len()];
+    match test_shift(held, run, lengths, outputs) {
+        Ok(()) => do_shift(held, run, clocks, inputs, words, outputs),
+        Err(code) => Shift { code, accepted: 0, run: run.clone() },
+    }
+}
+
+// Request (iii): "Refusals: 15, chart, 12, then 18 ..., all before any cycle"
+fn test_shift(held: &Held, run: &Run, lengths: [usize; 3], outputs: &[i32]) -> Result<(), Code> {
+    test_outputs(outputs)?;
+    let chart = test_chart(held)?;
+    test_run(&chart, run)?;
+    test_lengths(lengths)
+}
+
+// Request (iii): "18 when the three lists differ in length or exceed 4,096"
+fn test_lengths(lengths: [usize; 3]) -> Result<(), Code> {
+    let [clocks, inputs, words] = lengths;
+    if clocks != inputs || clocks != words || clocks > 4096 {
+        return Err(18);
+    }
+    Ok(())
+}
+
+// Request (iii): "The result equals the calls made singly. It stops at the first refused cycle and
+// returns the number accepted and the run there, with the outputs of the last accepted cycle,
+// untouched if there was none. Activity words behind that number stay."; "then 11, at its place"
+fn do_shift(
+    held: &Held,
+    given: &Run,
+    clocks: &[u32],
+    inputs: &[u32],
+    words: &mut [u64],
+    outputs: &mut [i32],
+) -> Shift {
+    let mut shift = Shift { code: 0, accepted: 0, run: given.clone() };
+    for (k, (clock, inputs)) in clocks.iter().zip(inputs).enumerate() {
+        let answer = cycle(held, &shift.run, *clock, *inputs, outputs);
+        shift.code = answer.code;
+        shift.run = answer.run;
+        if shift.code != 0 {
+            break;
+        }
+        shift.accepted += 1;
+        put(words, k, word_of(&shift.run.activity));
+    }
+    shift
+}
+
+// ---------------------------------------------------------------------------------------------
 // The printed run
 // ---------------------------------------------------------------------------------------------
 
@@ -1201,7 +1274,7 @@ fn tally_line(tally: &Tally) -> String {
 }
 
 // ---------------------------------------------------------------------------------------------
-// The command line (not spoken of in document 01 or in requests (i) and (ii))
+// The command line (not spoken of in document 01 or in requests (i), (ii) and (iii))
 // ---------------------------------------------------------------------------------------------
 
 // For the command line: one case of `print`, and what is printed for it.
@@ -1341,7 +1414,8 @@ fn run_image(input: &mut Fields) -> Option<Run> {
     Some(Run { clock, active, activity, stored, latched, step_counters, action_timers, good, bad })
 }
 
-// For the command line: one case of `held`, and its line.
+// For the command line: one case of `held`, and its line. The calls are 0 start, 1 cycle, 2 tally,
+// 3 weighing, 4 writing and 5 shift; a shift's clocks and inputs follow the weights.
 fn held_case(input: &mut Fields) -> Option<Vec<u8>> {
     let held = chart_image(input)?;
     let run = run_image(input)?;
@@ -1364,6 +1438,11 @@ fn held_case(input: &mut Fields) -> Option<Vec<u8>> {
             line_of([answer.code, answer.transition, answer.total].iter())
         }
         4 => writing_line(&held, clock),
+        5 => {
+            let clocks = input.column((clock % 65_536) as usize, 4)?;
+            let list = input.column((clock / 65_536) as usize, 4)?;
+            shift_line(&held, &run, &clocks, &list, inputs, &mut outputs)
+        }
         _ => b"unknown call\n".to_vec(),
     };
     Some(line)
@@ -1371,10 +1450,15 @@ fn held_case(input: &mut Fields) -> Option<Vec<u8>> {
 
 // For the command line: the line of a start or a cycle.
 fn answer_line(answer: &Answer, outputs: &[i32]) -> Vec<u8> {
-    let run = &answer.run;
+    let mut values = vec![i128::from(answer.code), i128::from(word_of(&answer.taken))];
+    values.extend(run_values(&answer.run));
+    values.extend(outputs.iter().map(|value| i128::from(*value)));
+    line_of(values.iter())
+}
+
+// For the command line: the fields of a run, in the line of a start, a cycle or a shift.
+fn run_values(run: &Run) -> Vec<i128> {
     let words = [
-        answer.code,
-        word_of(&answer.taken),
         u64::from(run.clock),
         word_of(&run.active),
         word_of(&run.activity),
@@ -1386,7 +1470,29 @@ fn answer_line(answer: &Answer, outputs: &[i32]) -> Vec<u8> {
     let mut values: Vec<i128> = words.iter().map(|word| i128::from(*word)).collect();
     values.extend(run.step_counters.iter().map(|time| i128::from(*time)));
     values.extend(run.action_timers.iter().map(|time| i128::from(*time)));
+    values
+}
+
+// For the command line: the line of a shift: the number, the number accepted, the run, the lent
+// outputs and then all the lent activity words. There are as many clocks as the two lowest bytes of
+// the call's clock say, as many inputs as its two highest say and as many activity words as the two
+// lowest bytes of the call's inputs say, word k holding 4,294,967,296 + k before.
+fn shift_line(
+    held: &Held,
+    run: &Run,
+    clocks: &[u64],
+    inputs: &[u64],
+    lent: u32,
+    outputs: &mut [i32],
+) -> Vec<u8> {
+    let clocks: Vec<u32> = clocks.iter().map(|clock| *clock as u32).collect();
+    let inputs: Vec<u32> = inputs.iter().map(|word| *word as u32).collect();
+    let mut words: Vec<u64> = (0..lent % 65_536).map(|k| 4_294_967_296 + u64::from(k)).collect();
+    let answer = shift(held, run, &clocks, &inputs, &mut words, outputs);
+    let mut values = vec![i128::from(answer.code), i128::from(answer.accepted)];
+    values.extend(run_values(&answer.run));
     values.extend(outputs.iter().map(|value| i128::from(*value)));
+    values.extend(words.iter().map(|word| i128::from(*word)));
     line_of(values.iter())
 }
 
@@ -1609,6 +1715,15 @@ fn selftest() {
     check_writing_order(&mut bench);
     check_writing_beyond(&mut bench);
     check_writing_lines(&mut bench);
+    check_shift_none(&mut bench);
+    check_shift_several(&mut bench);
+    check_shift_singly(&mut bench);
+    check_shift_11(&mut bench);
+    check_shift_11_places(&mut bench);
+    check_shift_order(&mut bench);
+    check_shift_18(&mut bench);
+    check_shift_4096(&mut bench);
+    check_shift_lines(&mut bench);
     check_printed(&mut bench);
     check_printed_refusals(&mut bench);
     check_trace_length(&mut bench);
@@ -2404,6 +2519,418 @@ fn check_writing_lines(b: &mut Bench) {
     b.check("back, chart A", back(chart_a_bytes()) == b"0 152 same\n");
     b.check("back, empty file", back(vec![]) == b"1\n");
     b.check("back, surplus byte", back([chart_a_bytes(), vec![0]].concat()) == b"10\n");
+}
+
+// ---------------------------------------------------------------------------------------------
+// The selftest: the whole shift
+// ---------------------------------------------------------------------------------------------
+
+// What a shift leaves: number, number accepted, run, activity words and outputs.
+type Shifted = (Code, u64, Run, Vec<u64>, Vec<i32>);
+
+// Lent activity words as they are before a call of the selftest, all different and none small.
+fn lent_words(count: usize) -> Vec<u64> {
+    (0..count as u64).map(|k| u64::MAX - k).collect()
+}
+
+// Clocks and inputs of cycles, in a list each.
+fn lists_of(cycles: &[(u32, u32)]) -> (Vec<u32>, Vec<u32>) {
+    cycles.iter().copied().unzip()
+}
+
+// A shift of cycles, each with clock and inputs, from a run, with as many activity words; the 34
+// outputs are 5 before.
+fn shifted(held: &Held, run: &Run, cycles: &[(u32, u32)]) -> Shifted {
+    let (clocks, inputs) = lists_of(cycles);
+    let mut words = lent_words(cycles.len());
+    let mut outputs = vec![5; 34];
+    let answer = shift(held, run, &clocks, &inputs, &mut words, &mut outputs);
+    (answer.code, answer.accepted, answer.run, words, outputs)
+}
+
+// Request (iii): "The result equals the calls made singly." (what the shift must leave if, after a
+// start, the first `accepted` of the cycles are accepted and the next, if any, gives this number)
+fn singly(held: &Held, clock: u32, cycles: &[(u32, u32)], accepted: usize, code: Code) -> Shifted {
+    let before = |count: usize| played(held, clock, cycles.get(..count).unwrap_or(&[]));
+    let mut words = lent_words(cycles.len());
+    for k in 0..accepted {
+        put(&mut words, k, word_of(&before(k + 1).0.run.activity));
+    }
+    let (answer, outputs) = before(accepted);
+    let outputs = if accepted == 0 { vec![5; 34] } else { outputs };
+    (code, accepted as u64, answer.run, words, outputs)
+}
+
+// A shift in which no cycle may be accepted, with lists of these lengths and every cycle at this
+// clock: its number, if nothing was accepted or written and the run is the one given, else 99.
+fn shift_code(held: &Held, run: &Run, lengths: [usize; 3], lent: usize, clock: u32) -> Code {
+    let [clocks, inputs, count] = lengths;
+    let mut words = lent_words(count);
+    let mut outputs = vec![8; lent];
+    let clocks = vec![clock; clocks];
+    let inputs = vec![1; inputs];
+    let answer = shift(held, run, &clocks, &inputs, &mut words, &mut outputs);
+    let kept = answer.run == *run && words == lent_words(count) && outputs == vec![8; lent];
+    if answer.accepted != 0 || !kept {
+        return 99;
+    }
+    answer.code
+}
+
+// The run of chart A after a start at 1000.
+fn run_a() -> Run {
+    played(&held_a(), 1000, &[]).0.run
+}
+
+// A chart in which every qualifier but R has an action of its own (R resets four of them), with a
+// fork, a join and cases.
+fn held_of_all() -> Held {
+    let actions: Vec<Vec<u8>> = (0..11).map(|k| action(k % 4, 100 + i32::from(k))).collect();
+    let moves = [
+        transition(1, 6, 1, 0, 0),
+        transition(2, 8, 2, 4, 30),
+        transition(12, 1, 1 << 34, 1, 20),
+        transition(8, 2, 1, 1 << 37, 10),
+    ];
+    let blocks = [
+        [block(1, 0, 0, 0), block(2, 2, 2, 0), block(0, 2, 1, 0), block(3, 3, 3, 25)].concat(),
+        [block(2, 4, 4, 40), block(1, 5, 5, 0), block(2, 6, 6, 50), block(0, 6, 1, 0)].concat(),
+        [block(3, 7, 7, 15), block(0, 7, 1, 0), block(1, 8, 8, 60), block(0, 8, 1, 0)].concat(),
+        [block(3, 9, 9, 0), block(2, 10, 10, 0)].concat(),
+    ];
+    let cases = [case(1, 1, 1), case(2, 34, 0), case(3, 2, 0)].concat();
+    let steps = [step(1), step(0), step(0), step(0)].concat();
+    held_of(&[steps, actions.concat(), moves.concat(), blocks.concat(), cases])
+}
+
+// Forty cycles for it after a start at 4,294,967,000, over the clock's turn.
+fn cycles_of_all() -> Vec<(u32, u32)> {
+    let clock = |k: u32| 4_294_967_000u32.wrapping_add(17 * k + k * k % 7);
+    (1..41).map(|k| (clock(k), (k * k + k / 3) % 8)).collect()
+}
+
+// Request (iii): "untouched if there was none" (no cycles at all are accepted)
+fn check_shift_none(b: &mut Bench) {
+    let nothing = |run: &Run| (0, 0, run.clone(), vec![], vec![5; 34]);
+    b.check("no cycles", shifted(&held_a(), &run_a(), &[]) == nothing(&run_a()));
+    let zero = zero_run();
+    b.check("no cycles, all-zero run", shifted(&held_a(), &zero, &[]) == nothing(&zero));
+    let there = played(&held_a(), 1000, &[(1010, 1)]).0.run;
+    b.check("no cycles, later run", shifted(&held_a(), &there, &[]) == nothing(&there));
+    b.check("no cycles, 32 outputs", shift_code(&held_a(), &run_a(), [0; 3], 32, 0) == 0);
+}
+
+// Request (iii): "wants the activity word of each in a third"; chart A's trace and the L and D of
+// the bench examples, by hand
+fn check_shift_several(b: &mut Bench) {
+    let written = |first: i32| [vec![first], vec![0; 31], vec![5; 2]].concat();
+    let (code, accepted, run, words, outputs) = shifted(&held_a(), &run_a(), &[(1010, 1)]);
+    b.check("one cycle", (code, accepted) == (0, 1));
+    b.check("one cycle, word", words == vec![3]);
+    b.check("one cycle, outputs", outputs == written(120));
+    b.check("one cycle, run", run.clock == 1010 && word_of(&run.active) == 2);
+    b.check("one cycle, run's activity", word_of(&run.activity) == 3);
+    let cycles = [(1010, 1), (1509, 2), (1510, 2), (1510, 0), (1520, 1)];
+    let (code, accepted, run, words, outputs) = shifted(&held_a(), &run_a(), &cycles);
+    b.check("five cycles", (code, accepted) == (0, 5));
+    b.check("five cycles, words", words == vec![3, 3, 0, 0, 3]);
+    b.check("five cycles, outputs", outputs == written(120));
+    b.check("five cycles, run", run.clock == 1520 && word_of(&run.active) == 2);
+    b.check("five cycles, marks", word_of(&run.good) == 1 && run.bad.is_empty());
+    let (_, _, run, _, outputs) = shifted(&held_a(), &run_a(), &[(1010, 1), (1510, 2)]);
+    b.check("two cycles, outputs of the last", outputs == written(0));
+    b.check("two cycles, run", run.clock == 1510 && word_of(&run.active) == 1);
+    let without = shifted(&held_a(), &run_a(), &cycles);
+    b.check("junk plays no part", shifted(&held_a_with_junk(), &run_a(), &cycles) == without);
+    let cycles = [(1, 0), (99, 0), (100, 0), (60_100, 0), (120_100, 0)];
+    let blocks = [block(0, 0, 3, 100), block(0, 1, 4, 100)].concat();
+    let held = held_of(&[step(1), action(0, 1), action(1, 1), blocks]);
+    let run = played(&held, 0, &[]).0.run;
+    let (code, accepted, run, words, _) = shifted(&held, &run, &cycles);
+    b.check("60,000 after the one before", (code, accepted) == (0, 5));
+    b.check("L 100 and D 100", words == vec![1, 1, 2, 2, 2]);
+    b.check("the counter has grown by all", at(&run.step_counters, 0) == 120_100);
+    let blocks: Vec<Vec<u8>> = (0..32).map(|k| block(0, k, 0, 0)).collect();
+    let held = held_of(&[step(1), action(0, 1).repeat(32), blocks.concat()]);
+    let words = shifted(&held, &played(&held, 0, &[]).0.run, &[(0, 0), (0, 0)]).3;
+    b.check("all actions", words == vec![4_294_967_295; 2]);
+}
+
+// Request (iii): "The result equals the calls made singly." (every beginning of the cycles, and two
+// shifts one after the other)
+fn check_shift_singly(b: &mut Bench) {
+    let held = held_of_all();
+    let cycles = cycles_of_all();
+    let clock = 4_294_967_000;
+    let began = played(&held, clock, &[]).0.run;
+    b.check("all qualifiers, start", played(&held, clock, &[]).0.code == 0);
+    let whole = shifted(&held, &began, &cycles);
+    let seen_words: BTreeSet<u64> = whole.3.iter().copied().collect();
+    let every = whole.3.iter().fold(0, |all, word| all | word);
+    b.check("all qualifiers, many words", seen_words.len() > 10);
+    b.check("all qualifiers, each but R is active", every == 0x7fd);
+    b.check("all qualifiers, case marks", whole.2.good.len() + whole.2.bad.len() > 2);
+    for count in 0..cycles.len() + 1 {
+        let (first, second) = cycles.split_at(count);
+        let answer = shifted(&held, &began, first);
+        b.check("a beginning", answer == singly(&held, clock, first, count, 0));
+        let rest = shifted(&held, &answer.2, second);
+        let words: Vec<u64> = answer.3.iter().chain(rest.3.iter()).copied().collect();
+        let both = (answer.0 + rest.0, answer.1 + rest.1) == (0, 40) && words == whole.3;
+        b.check("two shifts", both && rest.2 == whole.2);
+        b.check("two shifts, outputs", second.is_empty() || rest.4 == whole.4);
+    }
+}
+
+// Request (iii): "It stops at the first refused cycle"; "untouched if there was none"; "Activity
+// words behind that number stay."; "then 11, at its place" (chart A, by hand)
+fn check_shift_11(b: &mut Bench) {
+    let written = |first: i32| [vec![first], vec![0; 31], vec![5; 2]].concat();
+    let lent = lent_words(3);
+    for bad in [999, 61_001, u32::MAX].iter() {
+        let cycles = [(*bad, 1), (1010, 1), (1510, 2)];
+        let nothing = (11, 0, run_a(), lent.clone(), vec![5; 34]);
+        b.check("first refused", shifted(&held_a(), &run_a(), &cycles) == nothing);
+        let alone = (11, 0, run_a(), lent_words(1), vec![5; 34]);
+        b.check("only one, refused", shifted(&held_a(), &run_a(), &[(*bad, 1)]) == alone);
+    }
+    for bad in [1009, 61_011, 1000, 0].iter() {
+        let cycles = [(1010, 1), (*bad, 0), (1510, 2)];
+        let (code, accepted, run, words, outputs) = shifted(&held_a(), &run_a(), &cycles);
+        b.check("middle refused", (code, accepted) == (11, 1));
+        b.check("middle refused, words", words == vec![3, at(&lent, 1), at(&lent, 2)]);
+        b.check("middle refused, outputs", outputs == written(120));
+        b.check("middle refused, run", run == played(&held_a(), 1000, &[(1010, 1)]).0.run);
+        b.check("middle refused, clock", run.clock == 1010 && word_of(&run.active) == 2);
+    }
+    for bad in [1509, 61_511].iter() {
+        let cycles = [(1010, 1), (1510, 2), (*bad, 1)];
+        let (code, accepted, run, words, outputs) = shifted(&held_a(), &run_a(), &cycles);
+        b.check("last refused", (code, accepted) == (11, 2));
+        b.check("last refused, words", words == vec![3, 0, at(&lent, 2)]);
+        b.check("last refused, outputs", outputs == written(0));
+        b.check("last refused, run", run.clock == 1510 && word_of(&run.active) == 1);
+        b.check("last refused, mark", word_of(&run.good) == 1);
+    }
+    let cycles = [(1010, 1), (1009, 0), (1008, 0)];
+    let (code, accepted, run, words, _) = shifted(&held_a(), &run_a(), &cycles);
+    b.check("two refused", (code, accepted, run.clock) == (11, 1, 1010));
+    b.check("two refused, words", words == vec![3, at(&lent, 1), at(&lent, 2)]);
+    let cycles = [(61_000, 1), (121_000, 2), (181_001, 0)];
+    let (code, accepted, run, words, _) = shifted(&held_a(), &run_a(), &cycles);
+    b.check("60,001 after the one before", (code, accepted, run.clock) == (11, 2, 121_000));
+    b.check("60,001 after the one before, words", words == vec![3, 0, at(&lent, 2)]);
+}
+
+// The same at every place of a longer shift, from single calls; the cycle at that place is a
+// millisecond before the one before it.
+fn check_shift_11_places(b: &mut Bench) {
+    let held = held_of_all();
+    let clock = 4_294_967_000;
+    let began = played(&held, clock, &[]).0.run;
+    for place in 0..cycles_of_all().len() {
+        let mut cycles = cycles_of_all();
+        let last = played(&held, clock, cycles.get(..place).unwrap_or(&[])).0.run.clock;
+        put(&mut cycles, place, (last.wrapping_sub(1), 7));
+        let there = played(&held, clock, cycles.get(..place + 1).unwrap_or(&[])).0;
+        b.check("single call refused", there.code == 11);
+        let answer = shifted(&held, &began, &cycles);
+        b.check("refused at its place", answer == singly(&held, clock, &cycles, place, 11));
+        b.check("the run that the refused one gave back", answer.2 == there.run);
+    }
+}
+
+// Request (iii): "Refusals: 15, chart, 12, then 18 when the three lists differ in length or exceed
+// 4,096, all before any cycle, with 0 accepted and nothing written; then 11, at its place."
+fn check_shift_order(b: &mut Bench) {
+    let mut broken = held_a();
+    broken.counts.steps = 65;
+    let empty = hold(&Chart::default());
+    let mut strange = zero_run();
+    strange.active = numbers(3);
+    for lengths in [[0; 3], [1; 3], [3; 3], [1, 2, 3], [4097; 3]].iter() {
+        for clock in [1010, 999].iter() {
+            let code = |held: &Held, run: &Run, lent| shift_code(held, run, *lengths, lent, *clock);
+            b.check("shift: 15 alone", code(&held_a(), &run_a(), 31) == 15);
+            b.check("shift: 15, no outputs", code(&held_a(), &run_a(), 0) == 15);
+            b.check("shift: 15 before the chart", code(&broken, &run_a(), 31) == 15);
+            b.check("shift: 15 before 12", code(&held_a(), &strange, 31) == 15);
+            b.check("shift: 15 before all", code(&broken, &strange, 31) == 15);
+            b.check("shift: the chart's 4", code(&broken, &run_a(), 32) == 4);
+            b.check("shift: the chart's 9", code(&empty, &zero_run(), 32) == 9);
+            b.check("shift: the chart before 12", code(&broken, &strange, 32) == 4);
+            b.check("shift: 9 before 12", code(&empty, &strange, 32) == 9);
+            b.check("shift: 12", code(&held_a(), &strange, 32) == 12);
+        }
+    }
+    for lengths in [[1, 2, 3], [4097; 3]].iter() {
+        let code = |clock| shift_code(&held_a(), &run_a(), *lengths, 32, clock);
+        b.check("shift: then 18", code(1010) == 18);
+        b.check("shift: 18 before 11", code(999) == 18);
+    }
+    b.check("shift: then 11", shift_code(&held_a(), &run_a(), [3; 3], 32, 999) == 11);
+    let mut outputs = vec![5; 32];
+    let answer = shift(&held_a(), &run_a(), &[1010], &[1], &mut [9], &mut outputs);
+    b.check("shift: 32 outputs are enough", answer.code == 0 && at(&outputs, 0) == 120);
+}
+
+// Request (iii): "18 when the three lists differ in length or exceed 4,096"
+fn check_shift_18(b: &mut Bench) {
+    let code = |lengths, clock| shift_code(&held_a(), &run_a(), lengths, 32, clock);
+    for (less, more) in [(0, 1), (1, 2), (2, 7), (4095, 4096), (4096, 4097), (0, 4096)].iter() {
+        for clock in [1010, 999].iter() {
+            b.check("fewer clocks", code([*less, *more, *more], *clock) == 18);
+            b.check("fewer inputs", code([*more, *less, *more], *clock) == 18);
+            b.check("fewer words", code([*more, *more, *less], *clock) == 18);
+            b.check("more clocks", code([*more, *less, *less], *clock) == 18);
+            b.check("more inputs", code([*less, *more, *less], *clock) == 18);
+            b.check("more words", code([*less, *less, *more], *clock) == 18);
+        }
+    }
+    b.check("three lengths", code([2, 3, 1], 1010) == 18);
+    for count in [4097, 5000, 8192, 65_536, 65_537, 69_632].iter() {
+        b.check("too many cycles", code([*count; 3], 1010) == 18);
+        b.check("too many cycles, 18 before 11", code([*count; 3], 999) == 18);
+    }
+}
+
+// Request (iii): "up to 4,096 cycles" (chart A there and back again, each time after its wait of
+// 500)
+fn check_shift_4096(b: &mut Bench) {
+    let cycle_of = |k: u32| (1500 + 500 * k, 1 + k % 2);
+    let mut cycles: Vec<(u32, u32)> = (0..4096).map(cycle_of).collect();
+    let (code, accepted, run, words, outputs) = shifted(&held_a(), &run_a(), &cycles);
+    b.check("4,096 cycles", (code, accepted) == (0, 4096));
+    b.check("4,096 cycles, words", words == [3, 0].repeat(2048));
+    b.check("4,096 cycles, run", run.clock == 2_049_000 && word_of(&run.active) == 1);
+    b.check("4,096 cycles, outputs", at(&outputs, 0) == 0 && at(&outputs, 33) == 5);
+    let less = cycles.get(..4095).unwrap_or(&[]);
+    let (code, accepted, run, words, outputs) = shifted(&held_a(), &run_a(), less);
+    b.check("4,095 cycles", (code, accepted, run.clock) == (0, 4095, 2_048_500));
+    b.check("4,095 cycles, words", words == [[3, 0].repeat(2047), vec![3]].concat());
+    b.check("4,095 cycles, outputs", at(&outputs, 0) == 120 && word_of(&run.active) == 2);
+    put(&mut cycles, 4095, (2_048_499, 2));
+    let (code, accepted, run, words, outputs) = shifted(&held_a(), &run_a(), &cycles);
+    b.check("the last of 4,096 refused", (code, accepted, run.clock) == (11, 4095, 2_048_500));
+    let last = u64::MAX - 4095;
+    b.check("its word stays", words == [[3, 0].repeat(2047), vec![3, last]].concat());
+    b.check("the outputs before it", at(&outputs, 0) == 120 && word_of(&run.active) == 2);
+}
+
+// For the command line: the chart and the run of a case of `held`: one step, action 0 (output 0,
+// value 7) with D 100 on it; clock 1000 and the step active.
+fn held_image() -> Vec<u8> {
+    let mut image = Vec::new();
+    for count in [1u64, 1, 0, 1, 0].iter() {
+        image.extend(count.to_le_bytes());
+    }
+    image.extend([vec![1], vec![0; 63], vec![0; 32], vec![7], vec![0; 127]].concat());
+    image.extend([vec![0; 4 * 512 + 256], vec![0; 512], vec![4], vec![0; 255]].concat());
+    image.extend([vec![100], vec![0; 1023], vec![0; 192]].concat());
+    image.extend([vec![232, 3, 0, 0, 1], vec![0; 31], vec![0; 256 + 128 + 16]].concat());
+    image
+}
+
+// For the command line: the lines of all the calls that follow that chart and run, one case each,
+// and whether nothing is left of the input.
+fn held_lines(calls: &[Vec<u8>]) -> (String, bool) {
+    let cases = calls.iter().map(|call| [held_image(), call.clone()].concat());
+    let input = cases.collect::<Vec<Vec<u8>>>().concat();
+    let mut fields = Fields::new(&input);
+    let mut lines = Vec::new();
+    while let Some(line) = held_case(&mut fields) {
+        lines.extend(line);
+    }
+    let nothing_left = fields.place == input.len();
+    (String::from_utf8(lines).unwrap_or_default(), nothing_left)
+}
+
+// For the command line: a call's fixed part: kind, clock, inputs, lent outputs, number of weights.
+fn call_bytes(kind: u8, clock: u32, inputs: u32, lent: u8, weights: u8) -> Vec<u8> {
+    let mut bytes = vec![kind];
+    bytes.extend(clock.to_le_bytes());
+    bytes.extend(inputs.to_le_bytes());
+    bytes.extend([lent, weights].iter());
+    bytes
+}
+
+// For the command line: four bytes each, least byte first.
+fn four_bytes(values: &[u32]) -> Vec<u8> {
+    values.iter().flat_map(|value| value.to_le_bytes().to_vec()).collect()
+}
+
+// For the command line: the lines of a shift, and beside them those of a start and of a cycle, by
+// hand.
+fn check_shift_lines(b: &mut Bench) {
+    let zeros = |count: usize| " 0".repeat(count);
+    let run = |text: &str, counter: u32| format!(" {} 0 0 0 0 {}{}", text, counter, zeros(63 + 32));
+    let lent: String = (0..33).map(|k| format!(" {}", 1000 + k)).collect();
+    let written = |first: i32| format!(" {}{} 1032", first, zeros(31));
+    let given = run("1000 1 0", 0);
+    let fixed = |clocks: u32, inputs: u32, words: u32| {
+        call_bytes(5, clocks + 65_536 * inputs, words, 33, 0)
+    };
+    let started = format!("0 0{}{}\n", run("77 1 0", 0), written(0));
+    let cycled = format!("0 0{}{}\n", run("1101 1 1", 101), written(7));
+    let refused = format!("11 0{}{}\n", given, lent);
+    let start = call_bytes(0, 77, 0, 33, 0);
+    let cycle = |clock| call_bytes(1, clock, 0, 33, 0);
+    b.check("line of a start", held_lines(&[start.clone()]) == (started.clone(), true));
+    b.check("line of a cycle", held_lines(&[cycle(1101)]) == (cycled.clone(), true));
+    b.check("line of a refused cycle", held_lines(&[cycle(999)]) == (refused, true));
+    let mut every = zero_run();
+    every.clock = 9;
+    every.active = set_of(1 << 63);
+    every.activity = set_of(2);
+    every.stored = set_of(3);
+    every.latched = set_of(4);
+    every.good = set_of(5);
+    every.bad = set_of(6);
+    put(&mut every.step_counters, 63, 7);
+    put(&mut every.action_timers, 0, 8);
+    let fields = format!("9 9223372036854775808 2 3 4 5 6{} 7 8{}\n", zeros(63), zeros(31));
+    b.check("fields of a run", line_of(run_values(&every).iter()) == fields.as_bytes());
+    let lists = |clocks: &[u32], inputs: &[u32]| [four_bytes(clocks), four_bytes(inputs)].concat();
+    let three = [fixed(3, 3, 3), lists(&[1060, 1100, 1101], &[u32::MAX, 0, 5])].concat();
+    let accepted = format!("0 3{}{} 0 1 1\n", run("1101 1 1", 101), written(7));
+    b.check("line of a shift", held_lines(&[three.clone()]) == (accepted.clone(), true));
+    let high = [fixed(3, 3, 0xabcd_0003), lists(&[1060, 1100, 1101], &[0; 3])].concat();
+    b.check("only two bytes of the inputs", held_lines(&[high]) == (accepted.clone(), true));
+    let middle = [fixed(3, 3, 3), lists(&[1060, 1059, 1101], &[0; 3])].concat();
+    let behind = format!("11 1{}{} 0 4294967297 4294967298\n", run("1060 1 0", 60), written(0));
+    b.check("line of a shift, 11", held_lines(&[middle.clone()]) == (behind.clone(), true));
+    let first = [fixed(1, 1, 1), lists(&[999], &[0])].concat();
+    let untouched = format!("11 0{}{} 4294967296\n", given, lent);
+    b.check("line of a shift, 11 first", held_lines(&[first]) == (untouched, true));
+    let none = format!("0 0{}{}\n", given, lent);
+    b.check("line of no cycles", held_lines(&[fixed(0, 0, 0)]) == (none.clone(), true));
+    let fewer = [fixed(1, 2, 2), lists(&[1060], &[0; 2])].concat();
+    let differ = format!("18 0{}{} 4294967296 4294967297\n", given, lent);
+    b.check("line of a shift, fewer clocks", held_lines(&[fewer]) == (differ.clone(), true));
+    let fewer = [fixed(2, 1, 2), lists(&[1060; 2], &[0])].concat();
+    b.check("line of a shift, fewer inputs", held_lines(&[fewer]) == (differ.clone(), true));
+    let words = [fixed(1, 1, 2), lists(&[1060], &[0])].concat();
+    b.check("line of a shift, more words", held_lines(&[words]) == (differ.clone(), true));
+    let words = [fixed(3, 3, 2), lists(&[1060; 3], &[0; 3])].concat();
+    b.check("line of a shift, fewer words", held_lines(&[words]) == (differ, true));
+    let long = [fixed(4097, 4097, 0), lists(&[1060; 4097], &[0; 4097])].concat();
+    let beyond = format!("18 0{}{}\n", given, lent);
+    b.check("line of a shift, 4,097", held_lines(&[long]) == (beyond, true));
+    let most = [fixed(4096, 4096, 4096), lists(&[1100; 4096], &[0; 4096])].concat();
+    let ones = " 1".repeat(4096);
+    let all = format!("0 4096{}{}{}\n", run("1100 1 1", 100), written(7), ones);
+    b.check("line of a shift, 4,096", held_lines(&[most]) == (all, true));
+    let few = [call_bytes(5, 65_537, 2, 2, 0), lists(&[1060], &[0])].concat();
+    let fifteen = format!("15 0{} 1000 1001 4294967296 4294967297\n", given);
+    b.check("line of a shift, 15", held_lines(&[few]) == (fifteen, true));
+    let weights = [call_bytes(5, 65_537, 1, 33, 2), vec![9; 4], lists(&[1100], &[0])].concat();
+    let after = format!("0 1{}{} 1\n", run("1100 1 1", 100), written(7));
+    b.check("the lists stand behind the weights", held_lines(&[weights]) == (after, true));
+    let calls = [three.clone(), cycle(1101), fixed(0, 0, 0), middle, start];
+    let lines = [accepted.clone(), cycled, none, behind, started].concat();
+    b.check("one case after the other", held_lines(&calls) == (lines, true));
+    let cut = three.get(..three.len() - 1).unwrap_or(&[]).to_vec();
+    b.check("a cut list", held_lines(&[three, cut]) == (accepted, false));
 }
 
 // ---------------------------------------------------------------------------------------------

@@ -9,6 +9,7 @@ use reader::numbers;
 use run::Run;
 use run::run::ActionTimer;
 use run::run::StepCounter;
+use shift::Shifted;
 
 // The most cases, so that the program ends on any input.
 const MOST: usize = 65536;
@@ -197,6 +198,33 @@ fn weights_of(tail: &[u8]) -> [u16; 256]
     out
 }
 
+// What lent activity words hold before a shift: more than any activity, and each a value of its own.
+fn words() -> [u64; 4097]
+    ensures { λ r. ⌜ 4097 ≡ length r ⌝ }
+{
+    let mut out = [0u64; 4097];
+    let mut k = 0;
+    while k < 4097 {
+        out[k] = 4_294_967_296 + k as u64;
+        k += 1;
+    }
+    out
+}
+
+// A shift's clocks, or its inputs.
+fn list_from(tail: &[u8], at: usize) -> [u32; 4097]
+    requires { ⌜ at ≤ 65536 ⌝ }
+    ensures { λ r. ⌜ 4097 ≡ length r ⌝ }
+{
+    let mut out = [0u32; 4097];
+    let mut k = 0;
+    while k < 4097 {
+        out[k] = numbers::u32_from(tail, at + 4 * k);
+        k += 1;
+    }
+    out
+}
+
 // A line grows in a buffer; each of these answers how long it is then. The buffer is larger than any line, and a full one takes no more.
 fn put(line: &mut [u8], used: usize, byte: u8) -> usize {
     if used < line.len() {
@@ -297,6 +325,25 @@ fn put_cycled(line: &mut [u8], c: Cycled, outputs: &[i32]) -> usize {
     put_outputs(line, ran, outputs)
 }
 
+fn put_words(line: &mut [u8], used: usize, words: &[u64]) -> usize {
+    let mut end = used;
+    let mut k = 0;
+    while k < words.len() {
+        end = put_number(line, end, words[k]);
+        k += 1;
+    }
+    end
+}
+
+fn put_shifted(line: &mut [u8], s: Shifted, outputs: &[i32], words: &[u64]) -> usize {
+    let code = put_number(line, 0, s.code as u64);
+    let accepted = put_number(line, code, s.accepted as u64);
+    let run = s.run;
+    let ran = put_run(line, accepted, run);
+    let out = put_outputs(line, ran, outputs);
+    put_words(line, out, words)
+}
+
 fn start(image: &[u8], line: &mut [u8]) -> usize {
     let mut room = lent();
     let n = chart::index_of(byte_from(image, 4997));
@@ -362,14 +409,51 @@ fn write(image: &[u8], line: &mut [u8]) -> usize {
     put_lent(line, length, bytes)
 }
 
+// The length of a shift's list, no more than there is room for.
+fn length_from(image: &[u8], at: usize) -> usize
+    ensures { λ r. ⌜ r ≤ 4097 ⌝ }
+{
+    chart::at_most(numbers::u16_from(image, at) as usize, 4097)
+}
+
+fn shift(image: &[u8], tail: &[u8], line: &mut [u8]) -> usize {
+    let mut room = lent();
+    let n = chart::index_of(byte_from(image, 4997));
+    let outputs: &mut [i32] = &mut room[..n];
+    let mut held = words();
+    let m = length_from(image, 4993);
+    let activities: &mut [u64] = &mut held[..m];
+    let many = length_from(image, 4989);
+    let clocks = list_from(tail, 0);
+    let inputs = list_from(tail, 4 * many);
+    let s = shift::shift(
+        chart_of(image),
+        run_of(image),
+        &clocks[..many],
+        &inputs[..length_from(image, 4991)],
+        activities,
+        outputs,
+    );
+    put_shifted(line, s, outputs, activities)
+}
+
 fn answer(image: &[u8], tail: &[u8], line: &mut [u8]) -> usize {
     match byte_from(image, 4988) {
         0 => start(image, line),
         1 => cycle(image, line),
         2 => tally(image, line),
         4 => write(image, line),
+        5 => shift(image, tail, line),
         _ => weigh(image, tail, line),
     }
+}
+
+// How many bytes stand behind the image: a shift's clocks and inputs, or weights.
+fn tail_of(image: &[u8]) -> usize {
+    if byte_from(image, 4988) == 5 {
+        return 4 * length_from(image, 4989) + 4 * length_from(image, 4991);
+    }
+    2 * chart::index_of(byte_from(image, 4998))
 }
 
 // One case; false at the end of the input, where it ends within a case, or after a write that failed.
@@ -380,7 +464,7 @@ fn one_case(image: &mut [u8], tail: &mut [u8], line: &mut [u8]) -> bool {
     if io::read_full(0, &mut image[..IMAGE]) < IMAGE {
         return false;
     }
-    let n = 2 * chart::index_of(byte_from(image, 4998));
+    let n = tail_of(image);
     if tail.len() < n {
         return false;
     }

@@ -25,14 +25,8 @@ same-length c = search needs
 returns-2 : tie.Need-returns-2
 returns-2 c = search needs
 
-byte-from-requires : tie.Need-byte-from-requires
-byte-from-requires c κs = search needs
-
-index-of-requires : tie.Need-index-of-requires
-index-of-requires c κs = search needs
-
-mul-n : tie.Need-mul-n
-mul-n c = search needs
+tail-of-requires : tie.Need-tail-of-requires
+tail-of-requires c κs = search needs
 
 same-length-2 : tie.Need-same-length-2
 same-length-2 c = search needs
@@ -107,9 +101,7 @@ one-case-spec =
     read-full-requires
     same-length
     returns-2
-    byte-from-requires
-    index-of-requires
-    mul-n
+    tail-of-requires
     same-length-2
     returns-3
     slice-relend-prefix-read-full-2
