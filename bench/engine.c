@@ -1,4 +1,5 @@
-/* The plain C engine: one flat chart, 64-bit words as sets, every call tests the chart and the run that it is given, as document 01 asks. */
+/* The plain C engine: one flat chart, 64-bit words as sets, every call tests the chart and the run that it is given, as document 01 asks, a shift
+   once for all its cycles. */
 #include "engine.h"
 
 #include <string.h>
@@ -312,7 +313,7 @@ static unsigned counts_bad(const uint32_t *counts, size_t n, uint64_t set)
 	return bad | ((some & ~set) != 0);
 }
 
-static unsigned belongs(const struct chart *c, const struct run *r)
+static inline unsigned belongs(const struct chart *c, const struct run *r)
 {
 	uint64_t noaction = from(c->actions);
 	if ((r->active & from(c->steps)) | ((r->activity | r->stored | r->latched) & noaction) | ((r->good | r->bad) & from(c->cases)))
@@ -348,7 +349,7 @@ struct moves {
 	uint64_t taken, left, entered;
 };
 
-static struct moves choose(const struct chart *c, const struct run *r, uint64_t signals)
+static inline struct moves choose(const struct chart *c, const struct run *r, uint64_t signals)
 {
 	struct moves m = { 0, 0, 0 };
 	uint64_t active = r->active;
@@ -430,16 +431,20 @@ unsigned start(const struct chart *c, uint32_t clock, int32_t *outputs, size_t l
 	return ACCEPTED;
 }
 
-unsigned cycle(const struct chart *c, struct run *r, uint32_t clock, uint32_t inputs, int32_t *outputs, size_t lent, uint64_t *taken)
+/* The tests that a cycle's clock has no part in. */
+static unsigned ready_code(const struct chart *c, const struct run *r, size_t lent)
 {
-	*taken = 0;
 	if (lent < OUTPUTS)
 		return FEW_OUTPUTS;
 	unsigned code = chart_code(c);
 	if (code)
 		return code;
-	if (!belongs(c, r))
-		return OTHER_RUN;
+	return belongs(c, r) ? ACCEPTED : OTHER_RUN;
+}
+
+/* A cycle of a chart and a run that passed those tests: 11, then paragraphs 1 to 6. */
+static inline unsigned advance(const struct chart *c, struct run *r, uint32_t clock, uint32_t inputs, int32_t *outputs, uint64_t *taken)
+{
 	uint32_t elapsed = clock - r->clock;
 	if (elapsed > LATEST)
 		return TOO_LATE;
@@ -454,6 +459,35 @@ unsigned cycle(const struct chart *c, struct run *r, uint32_t clock, uint32_t in
 	settle(c, r, m.entered, m.left, outputs);
 	r->clock = clock;
 	*taken = m.taken;
+	return ACCEPTED;
+}
+
+unsigned cycle(const struct chart *c, struct run *r, uint32_t clock, uint32_t inputs, int32_t *outputs, size_t lent, uint64_t *taken)
+{
+	*taken = 0;
+	unsigned code = ready_code(c, r, lent);
+	if (code)
+		return code;
+	return advance(c, r, clock, inputs, outputs, taken);
+}
+
+unsigned shift(const struct chart *c, struct run *r, const uint32_t *clocks, size_t nclocks, const uint32_t *inputs, size_t ninputs,
+	uint64_t *words, size_t nwords, int32_t *outputs, size_t lent, size_t *accepted)
+{
+	uint64_t taken;
+	*accepted = 0;
+	unsigned code = ready_code(c, r, lent);
+	if (code)
+		return code;
+	if (nclocks != ninputs || nclocks != nwords || nclocks > SHIFT)
+		return UNEVEN_LISTS;
+	for (size_t k = 0; k < nclocks; k++) {
+		code = advance(c, r, clocks[k], inputs[k], outputs, &taken);
+		if (code)
+			return code;
+		words[k] = r->activity;
+		*accepted = k + 1;
+	}
 	return ACCEPTED;
 }
 
@@ -514,6 +548,24 @@ uint64_t c_cycles(const uint8_t *bytes, size_t size, const uint32_t *clocks, siz
 	}
 	image_parts(image, &r, outputs, to_image);
 	return accepted;
+}
+
+uint64_t c_shift(const uint8_t *bytes, size_t size, const uint32_t *clocks, size_t nclocks, const uint32_t *inputs, size_t ninputs,
+	uint64_t *words, size_t nwords, uint8_t *image, size_t room)
+{
+	struct chart c;
+	struct run r;
+	int32_t outputs[OUTPUTS];
+	size_t place, accepted;
+	if (room < IMAGE)
+		return REFUSED;
+	unsigned code = read_chart(bytes, size, &c, &place);
+	if (code)
+		return REFUSED + code;
+	image_parts(image, &r, outputs, from_image);
+	code = shift(&c, &r, clocks, nclocks, inputs, ninputs, words, nwords, outputs, OUTPUTS, &accepted);
+	image_parts(image, &r, outputs, to_image);
+	return 65536 * (uint64_t)code + accepted;
 }
 
 uint64_t c_reads(const uint8_t *bytes, size_t size, uint32_t n)

@@ -1,12 +1,14 @@
 /* Runs the proved engine and the plain C one on the same charts and inputs.
 
-     bench compare SEED COUNT               COUNT random charts, good and damaged: every answer, image and file equal, or exit 1
+     bench compare SEED COUNT               COUNT random charts, good and damaged: every answer, image, activity word and file equal, or exit 1
      bench soak    SEED CHARTS N            N thousand cycles on each of CHARTS charts, images compared after each thousand: equal, or exit 1
      bench cycles  CHART ENGINE SEED N      N cycles of small, typical or full on the engine proved, c or both (both: exit 1 if they differ)
+     bench shift   CHART ENGINE SEED N      N cycles, at most 4,096, in one shift
      bench reads   CHART ENGINE SEED N      N readings of the chart's bytes
      bench tests   CHART ENGINE SEED N      N tests of the held chart
      bench writes  CHART ENGINE SEED N      N writings of the held chart
-     bench time    CHART SEED N             seconds of both for N cycles, N readings, N tests and N writings, and their ratios
+     bench time    CHART SEED N             nanoseconds of both for one of N cycles, N cycles in one shift (N at most 4,096), N readings, N tests
+                                            and N writings, and their ratios
 
    Charts and inputs are made at run time from the seed, so that the compiler can fold nothing away. */
 #include "engine.h"
@@ -199,8 +201,9 @@ static void random_chart(struct file *f)
 		put(f, any_word(), 1 + any(4));
 }
 
-enum { ROOM = 4096 };
-static uint32_t clocks[ROOM], inputs[ROOM], waits[ROOM];
+/* A shift may be lent one more than it takes; it is refused then, and the last one is never read. */
+enum { ROOM = SHIFT };
+static uint32_t clocks[ROOM + 1], inputs[ROOM + 1], waits[ROOM];
 
 /* Clocks that go on from `last` by up to 50 ms, and waits that fit; with `jumps` now and then clocks that go back or on by up to two minutes,
    and waits that are too long, so that cycles in the middle are refused. */
@@ -237,6 +240,7 @@ static void chart_of(const char *name, struct file *f)
 struct answer {
 	uint64_t number;
 	uint8_t image[IMAGE + 4];
+	uint64_t words[ROOM + 1];
 	uint8_t file[8192];
 };
 
@@ -251,6 +255,16 @@ static uint64_t cycles_of(int proved, const struct file *f, uint32_t n, struct a
 	return (proved ? tolwaziho_cycles : c_cycles)(f->bytes, f->size, clocks, ROOM, inputs, ROOM, waits, ROOM, n, a->image, sizeof a->image);
 }
 
+/* By how many each of a shift's lists, clocks, inputs and activity words, is shorter than N. */
+static uint32_t cut[3];
+
+static uint64_t shift_of(int proved, const struct file *f, uint32_t n, struct answer *a)
+{
+	memset(a->words, 165, sizeof a->words);
+	return (proved ? tolwaziho_shift : c_shift)(f->bytes, f->size, clocks, n - cut[0], inputs, n - cut[1], a->words, n - cut[2], a->image,
+		sizeof a->image);
+}
+
 /* Where the image is altered between a start and its cycles, and how. */
 static size_t altered_at;
 static uint8_t altered_by;
@@ -260,10 +274,10 @@ static size_t lent = sizeof ((struct answer *)0)->file;
 
 static uint64_t number_of(const char *what, int proved, const struct file *f, uint32_t n, struct answer *a)
 {
-	if (!strcmp(what, "cycles")) {
+	if (!strcmp(what, "cycles") || !strcmp(what, "shift")) {
 		uint64_t refused = start_of(proved, f, clocks[0], a);
 		a->image[altered_at] ^= altered_by;
-		return refused ? refused : cycles_of(proved, f, n, a);
+		return refused ? refused : (!strcmp(what, "shift") ? shift_of : cycles_of)(proved, f, n, a);
 	}
 	if (!strcmp(what, "reads"))
 		return (proved ? tolwaziho_reads : c_reads)(f->bytes, f->size, n);
@@ -282,6 +296,8 @@ static void show(const char *engine, const struct answer *a)
 	printf("%s %llu ", engine, (unsigned long long)a->number);
 	for (size_t i = 0; i < sizeof a->image; i++)
 		printf("%02x", a->image[i]);
+	for (size_t i = 0; i < ROOM + 1; i++)
+		printf(" %llx", (unsigned long long)a->words[i]);
 	printf(" ");
 	for (size_t i = 0; i < sizeof a->file; i++)
 		printf("%02x", a->file[i]);
@@ -290,7 +306,8 @@ static void show(const char *engine, const struct answer *a)
 
 static int equal(const char *what, const struct answer *proved, const struct answer *c)
 {
-	if (proved->number == c->number && !memcmp(proved->image, c->image, sizeof c->image) && !memcmp(proved->file, c->file, sizeof c->file))
+	if (proved->number == c->number && !memcmp(proved->image, c->image, sizeof c->image) && !memcmp(proved->words, c->words, sizeof c->words)
+		&& !memcmp(proved->file, c->file, sizeof c->file))
 		return 1;
 	printf("%s differ\n", what);
 	show("proved", proved);
@@ -319,7 +336,11 @@ static int compare(uint32_t count)
 		altered_by = any(8) ? 0 : (uint8_t)(1u << any(8));
 		/* an accepted chart's file is as long as it was */
 		lent = any(2) ? any(8193) : f.size - (f.size != 0 && any(2));
-		if (!same("cycles", &f, any(60)) || !same("reads", &f, 1 + any(2)) || !same("tests", &f, any(3)) || !same("writes", &f, 1 + any(2))) {
+		uint32_t n = any(8) ? any(60) : ROOM + any(2);
+		for (int i = 0; i < 3; i++)
+			cut[i] = any(20) ? 0 : any(n + 1);
+		if (!same("cycles", &f, any(60)) || !same("shift", &f, n) || !same("reads", &f, 1 + any(2)) || !same("tests", &f, any(3))
+			|| !same("writes", &f, 1 + any(2))) {
 			printf("chart %u\n", k);
 			return 1;
 		}
@@ -404,12 +425,12 @@ int main(int argc, char **argv)
 		return soak((uint32_t)strtoul(argv[3], NULL, 10), (uint32_t)strtoul(argv[4], NULL, 10));
 	}
 	if (argc == 5 && !strcmp(argv[1], "time")) {
-		static const char *const what[] = { "cycles", "reads", "tests", "writes" };
+		static const char *const what[] = { "cycles", "shift", "reads", "tests", "writes" };
 		uint32_t n = (uint32_t)strtoul(argv[4], NULL, 10);
 		state = strtoull(argv[3], NULL, 10);
 		chart_of(argv[2], &f);
 		some_inputs((uint32_t)any_word(), 0);
-		for (int i = 0; i < 4; i++) {
+		for (int i = 0; i < 5; i++) {
 			double proved = time_of(what[i], 1, &f, n), c = time_of(what[i], 0, &f, n);
 			printf("%s %.1f %.1f %.2f\n", what[i], 1e9 * proved / n, 1e9 * c / n, proved / c);
 		}

@@ -1,5 +1,5 @@
 -- One turn more of a run, and of a chart that is altered at one place; what the answers with an image are made of.
-use Prim.Native.Nat.{ℕ, _+_, _%_, _≤_}
+use Prim.Native.Nat.{ℕ, _+_, _*_, _%_, _≤_}
 use mathlib.Core.Path.{_≡_, refl, ap, _∙_}
 use mathlib.Core.Bool.{Bool, true, false, _||_, cond}
 use mathlib.Core.List.{List}
@@ -16,10 +16,12 @@ use Rattle.reader.specs.declared.reading.Reading.{Reading}
 use Rattle.run.specs.declared.run.Run.{Run}
 use Rattle.cycle.specs.Cycling.{startOf, outputsAfter, cycleOn}
 use Rattle.cycle.specs.declared.cycling.Cycled.{Cycled}
+use Rattle.shift.specs.Shifting.{Done, shiftOf}
+use Rattle.shift.specs.declared.shifting.Shifted.{Shifted}
 use Rattle.writer.specs.Writing.{writeChart}
 use Rattle.writer.specs.declared.writing.Writing.{Writing}
 use Rattle.engine.specs.Image.{withRun, withOutputs, runFrom, outputsFrom}
-use Rattle.engine.specs.Runs.{accepts, altered, turn, turned, written, imaged, ran, began, unfit, ifRead}
+use Rattle.engine.specs.Runs.{accepts, altered, turn, turned, written, imaged, ran, began, shifted, unfit, ifRead}
 use Rattle.engine.specs.declared.runs.Ran.{Ran}
 
 -- the last alteration counts
@@ -78,6 +80,18 @@ ran-of c clocks inputs waits n image middle last first room out r eroom efirst e
     let whole : Ran × List ℤ → ℕ × List ℕ = λ s. imaged (s .0 .accepted) (s .0 .run) (s .1) image in
     imaged-of (r .accepted) (r .run) out image middle last em el ∙ ap whole et ∙ rw (eroom, efirst)
 
+pub shifted-of : (c : Chart) (clocks inputs words image middle last acts : List ℕ) (first : Run) (room out : List ℤ) (x : Shifted)
+    → room ≡ outputsFrom image
+    → first ≡ runFrom image
+    → _≡_ {A = Done} (x, acts, out) (shiftOf c first clocks inputs words room)
+    → middle ≡ withRun image (x .run)
+    → last ≡ withOutputs middle out
+    → (65536 * (x .code) + x .accepted, acts, last) ≡ shifted c clocks inputs words image
+shifted-of c clocks inputs words image middle last acts first room out x eroom efirst ed em el =
+    let whole : Done → ℕ × List ℕ × List ℕ = λ d. (65536 * (d .0 .code) + d .0 .accepted, d .1, withOutputs (withRun image (d .0 .run)) (d .2)) in
+    let written : _≡_ {A = ℕ × List ℕ × List ℕ} (65536 * (x .code) + x .accepted, acts, last) (whole (x, acts, out)) = rw (el, em) in
+    written ∙ ap whole ed ∙ rw (eroom, efirst)
+
 or-none : (x y : Bool) → x || y ≡ false → (x ≡ false) × (y ≡ false)
 or-none false false e = (refl, refl)
 or-none false true e = let z : _≡_ {A = ℕ} 0 1 = cc in absurd (omega (arith, z))
@@ -92,24 +106,24 @@ fit a b c d e =
     (pos-of-ne-zero (eqb-false a 0 (inner .0)), pos-of-ne-zero (eqb-false b 0 (inner .1)), pos-of-ne-zero (eqb-false c 0 (middle .1)), ltb-false d 564 (outer .1))
 
 -- of an answer where the slices are unfit or the chart that is read decides
-module _ (chart image : List ℕ) (f : Chart → ℕ × List ℕ) (u : Bool) where
-  -- unfit slices leave the image
-  pub if-unfit : u ≡ true → (4294967296, image) ≡ cond u (4294967296, image) (ifRead chart image f)
+module _ {A : Type 0} (chart : List ℕ) (left : ℕ → A) (f : Chart → A) (u : Bool) where
+  -- unfit slices leave what was lent
+  pub if-unfit : u ≡ true → left 4294967296 ≡ cond u (left 4294967296) (ifRead chart left f)
   if-unfit e = rw e
 
-  -- a chart that is refused leaves the image
+  -- a chart that is refused leaves what was lent
   pub if-refused : (r : Reading)
       → u ≡ false
       → r ≡ readChart chart
       → (r .code ≡ 0 → ⊥)
-      → (4294967296 + r .code, image) ≡ cond u (4294967296, image) (ifRead chart image f)
+      → left (4294967296 + r .code) ≡ cond u (left 4294967296) (ifRead chart left f)
   if-refused r e h refused = rw (e, ← h, ne-eqb (r .code) 0 refused)
 
   -- a chart that is accepted is run
-  pub if-read : (r : Reading) (answer : ℕ × List ℕ)
+  pub if-read : (r : Reading) (answer : A)
       → u ≡ false
       → r ≡ readChart chart
       → r .code ≡ 0
       → answer ≡ f (r .chart)
-      → answer ≡ cond u (4294967296, image) (ifRead chart image f)
+      → answer ≡ cond u (left 4294967296) (ifRead chart left f)
   if-read r answer e h accepted a = a ∙ rw (e, ← h, eq-eqb (r .code) 0 accepted)

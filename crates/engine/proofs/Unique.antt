@@ -4,7 +4,7 @@ use mathlib.Core.List.{List}
 use mathlib.Core.Path.{_≡_}
 use Rattle.sets.proofs.Unique.{one-answer}
 use Rattle.chart.specs.declared.chart.Chart.{Chart}
-use Rattle.engine.specs.Runs.{startsOf, cyclesOf, readsOf, testsOf, writesOf}
+use Rattle.engine.specs.Runs.{startsOf, cyclesOf, shiftsOf, readsOf, testsOf, writesOf}
 
 -- the number and the image together
 pub starts-unique : (chart : List ℕ) (clock : ℕ) (image : List ℕ) (r q : ℕ × List ℕ)
@@ -18,6 +18,13 @@ pub cycles-unique : (chart clocks inputs waits : List ℕ) (n : ℕ) (image : Li
     → q ≡ cyclesOf chart clocks inputs waits n image
     → r ≡ q
 cycles-unique chart clocks inputs waits n image r q = one-answer
+
+-- the number, the activity words and the image together
+pub shifts-unique : (chart clocks inputs words image : List ℕ) (r q : ℕ × List ℕ × List ℕ)
+    → r ≡ shiftsOf chart clocks inputs words image
+    → q ≡ shiftsOf chart clocks inputs words image
+    → r ≡ q
+shifts-unique chart clocks inputs words image r q = one-answer
 
 pub reads-unique : (chart : List ℕ) (n r q : ℕ) → r ≡ readsOf chart n → q ≡ readsOf chart n → r ≡ q
 reads-unique chart n r q = one-answer

@@ -1,5 +1,5 @@
--- A start, and many cycles on one chart, with clocks, inputs and the wait of transition 0 taken in turn, again and again.
-use Prim.Native.Nat.{ℕ, _+_, _%_}
+-- A start, many cycles on one chart, with clocks, inputs and the wait of transition 0 taken in turn, again and again, and a shift.
+use Prim.Native.Nat.{ℕ, _+_, _*_, _%_}
 use mathlib.Core.List.{List}
 use mathlib.Core.Bool.{Bool, _||_, cond}
 use lib.IntN.{ℤ, pos}
@@ -11,6 +11,7 @@ use Rattle.chart.specs.declared.chart.Chart.{Chart}
 use Rattle.reader.specs.Reading.{readChart}
 use Rattle.run.specs.declared.run.Run.{Run}
 use Rattle.cycle.specs.Cycling.{startOf, outputsAfter, cycleOn}
+use Rattle.shift.specs.Shifting.{shiftOf}
 use Rattle.writer.specs.Writing.{writeChart}
 use Rattle.engine.specs.Image.{withRun, withOutputs, runFrom, outputsFrom}
 use Rattle.engine.specs.declared.runs.Ran.{Ran}
@@ -72,20 +73,32 @@ abbrev pub began : Chart → ℕ → List ℕ → ℕ × List ℕ
 began c clock image =
     let o = startOf c clock 32 in imaged (o .code) (o .run) (outputsAfter c o (replicate 32 (pos 0))) image
 
+-- the number of refusal and the number accepted in one, the activity words, and the bytes that were lent for the image
+abbrev pub shifted : Chart → List ℕ → List ℕ → List ℕ → List ℕ → ℕ × List ℕ × List ℕ
+shifted c clocks inputs words image =
+    let d = shiftOf c (runFrom image) clocks inputs words (outputsFrom image) in
+    (65536 * (d .0 .code) + d .0 .accepted, d .1, withOutputs (withRun image (d .0 .run)) (d .2))
+
 abbrev pub unfit : ℕ → ℕ → ℕ → ℕ → Bool
 unfit clocks inputs waits image = eqb clocks 0 || eqb inputs 0 || eqb waits 0 || ltb image 564
 
--- a refusal leaves the image as it is
-abbrev pub ifRead : List ℕ → List ℕ → (Chart → ℕ × List ℕ) → ℕ × List ℕ
-ifRead chart image f = cond (eqb (readChart chart .code) 0) (f (readChart chart .chart)) (4294967296 + readChart chart .code, image)
+-- a refusal leaves what was lent as it is
+abbrev pub ifRead : {A : Type 0} → List ℕ → (ℕ → A) → (Chart → A) → A
+ifRead chart left f = cond (eqb (readChart chart .code) 0) (f (readChart chart .chart)) (left (4294967296 + readChart chart .code))
 
 unfoldable pub startsOf : List ℕ → ℕ → List ℕ → ℕ × List ℕ
-startsOf chart clock image = cond (ltb (length image) 564) (4294967296, image) (ifRead chart image (λ c. began c clock image))
+startsOf chart clock image =
+    cond (ltb (length image) 564) (4294967296, image) (ifRead chart (λ n. (n, image)) (λ c. began c clock image))
 
 unfoldable pub cyclesOf : List ℕ → List ℕ → List ℕ → List ℕ → ℕ → List ℕ → ℕ × List ℕ
 cyclesOf chart clocks inputs waits n image =
     cond (unfit (length clocks) (length inputs) (length waits) (length image)) (4294967296, image)
-    (ifRead chart image (λ c. ran c clocks inputs waits n image))
+    (ifRead chart (λ m. (m, image)) (λ c. ran c clocks inputs waits n image))
+
+unfoldable pub shiftsOf : List ℕ → List ℕ → List ℕ → List ℕ → List ℕ → ℕ × List ℕ × List ℕ
+shiftsOf chart clocks inputs words image =
+    cond (ltb (length image) 564) (4294967296, words, image)
+    (ifRead chart (λ n. (n, words, image)) (λ c. shifted c clocks inputs words image))
 
 abbrev pub readsOf : List ℕ → ℕ → ℕ
 readsOf chart n = summed (λ i. readChart chart .code) n

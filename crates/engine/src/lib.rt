@@ -1,7 +1,7 @@
 // The engine for programs in other languages: a chart's bytes in, the run after some cycles out. The benchmark links it (bench/).
 ghost use mathlib.Core.Path.{_≡_};
 ghost use Rattle.reader.specs.Reading.{readChart};
-ghost use Rattle.engine.specs.Runs.{unfit, startsOf, cyclesOf, readsOf, testsOf, writesOf};
+ghost use Rattle.engine.specs.Runs.{unfit, startsOf, cyclesOf, shiftsOf, readsOf, testsOf, writesOf};
 
 pub mod image;
 pub mod runs;
@@ -55,6 +55,29 @@ pub extern "C" fn tolwaziho_cycles(
     }
     let held = reading.chart;
     runs::run_chart(held, clocks, inputs, waits, n, image)
+}
+
+// Reads the chart and makes a shift of cycles from the run in the image: 65,536 times its number of refusal and the number accepted added; the
+// image has the run and the outputs that it left.
+#[no_mangle]
+pub extern "C" fn tolwaziho_shift(
+    chart: &[u8],
+    clocks: &[u32],
+    inputs: &[u32],
+    activities: &mut [u64],
+    image: &mut [u8],
+) -> u64
+    ensures { λ r. ⌜ (r, now (activities .exit), now (image .exit)) ≡ shiftsOf (now (chart .entry)) (now (clocks .entry)) (now (inputs .entry)) (now (activities .entry)) (now (image .entry)) ⌝ }
+{
+    if image.len() < IMAGE {
+        return REFUSED;
+    }
+    let reading = reader::read_chart(chart);
+    if reading.code != 0 {
+        return REFUSED + reading.code as u64;
+    }
+    let held = reading.chart;
+    runs::shift_chart(held, clocks, inputs, activities, image)
 }
 
 // Reads the same bytes n times: the sum of the numbers of refusal.

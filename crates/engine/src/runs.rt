@@ -2,7 +2,7 @@
 ghost use mathlib.Core.Path.{_≡_};
 ghost use Prim.Native.Nat.{_%_, _≤_, _<_};
 ghost use lib.ListN.{length};
-ghost use Rattle.engine.specs.Runs.{accepts, turned, began, ran, testsOf, writesOf};
+ghost use Rattle.engine.specs.Runs.{accepts, turned, began, ran, shifted, testsOf, writesOf};
 use crate::image;
 use chart::Chart;
 use run::Run;
@@ -113,6 +113,26 @@ pub(crate) fn run_chart(
     image::put_run(image, run);
     image::put_outputs(image, outputs);
     ran.accepted as u64
+}
+
+pub(crate) fn shift_chart(
+    chart: Chart,
+    clocks: &[u32],
+    inputs: &[u32],
+    activities: &mut [u64],
+    image: &mut [u8],
+) -> u64
+    requires { ⌜ 564 ≤ length (now image) ⌝ }
+    ensures { λ r. ⌜ (r, now (activities .exit), now (image .exit)) ≡ shifted chart (now (clocks .entry)) (now (inputs .entry)) (now (activities .entry)) (now (image .entry)) ⌝ }
+{
+    let mut room = image::outputs_from(image);
+    let first = image::run_from(image);
+    let outputs: &mut [i32] = &mut room;
+    let o = shift::shift(chart, first, clocks, inputs, activities, outputs);
+    let run = o.run;
+    image::put_run(image, run);
+    image::put_outputs(image, outputs);
+    65536 * o.code as u64 + o.accepted as u64
 }
 
 pub(crate) fn test_held(chart: Chart, n: u32) -> u64

@@ -28,7 +28,7 @@ returns : tie.Need-returns
 unfolding cyclesOf
 returns c =
     let s = c .before .before .before .before .before .before .before in
-    if-unfit (s .args .chart .now) (s .args .image .now) (run s) _ (sym (c .before .is-unfit .ensures) ∙ c .if1 .taken)
+    if-unfit (s .args .chart .now) (λ m. (m, s .args .image .now)) (run s) _ (sym (c .before .is-unfit .ensures) ∙ c .if1 .taken)
 
 read-chart-requires : tie.Need-read-chart-requires
 read-chart-requires c κs = search needs
@@ -44,7 +44,7 @@ unfolding cyclesOf
 returns-2 c =
     let read = c .before .before .before in
     let s = call (read .before) in
-    if-refused (s .args .chart .now) (s .args .image .now) (run s) _ (read .read-chart .result) (fits (read .before)) (read .read-chart .ensures) (c .before .if2 .taken)
+    if-refused (s .args .chart .now) (λ m. (m, s .args .image .now)) (run s) _ (read .read-chart .result) (fits (read .before)) (read .read-chart .ensures) (c .before .if2 .taken)
 
 run-chart-requires : tie.Need-run-chart-requires
 run-chart-requires c κs =
@@ -60,7 +60,7 @@ unfolding cyclesOf
 returns-3 c =
     let read = c .before .before .before .before .before .before .before in
     let s = call (read .before) in
-    if-read (s .args .chart .now) (s .args .image .now) (run s) _ (read .read-chart .result) _ (fits (read .before)) (read .read-chart .ensures)
+    if-read (s .args .chart .now) (λ m. (m, s .args .image .now)) (run s) _ (read .read-chart .result) _ (fits (read .before)) (read .read-chart .ensures)
     (c .before .before .before .before .before .if2 .left) (c .before .before .run-chart .ensures)
 
 pub tolwaziho-cycles-spec : {M : Type 1} → statement M

@@ -17,7 +17,7 @@ returns : tie.Need-returns
 unfolding startsOf
 returns c =
     let s = c .before .before .before in
-    if-unfit (s .args .chart .now) (s .args .image .now) (start s) _ (lt-ltb _ _ (c .if1 .taken))
+    if-unfit (s .args .chart .now) (λ m. (m, s .args .image .now)) (start s) _ (lt-ltb _ _ (c .if1 .taken))
 
 read-chart-requires : tie.Need-read-chart-requires
 read-chart-requires c κs = search needs
@@ -33,7 +33,7 @@ unfolding startsOf
 returns-2 c =
     let read = c .before .before .before in
     let s = read .before .before .before .before in
-    if-refused (s .args .chart .now) (s .args .image .now) (start s) _ (read .read-chart .result)
+    if-refused (s .args .chart .now) (λ m. (m, s .args .image .now)) (start s) _ (read .read-chart .result)
     (le-ltb _ _ (read .before .if1 .left)) (read .read-chart .ensures) (c .before .if2 .taken)
 
 start-chart-requires : tie.Need-start-chart-requires
@@ -47,7 +47,7 @@ unfolding startsOf
 returns-3 c =
     let read = c .before .before .before .before .before .before .before in
     let s = read .before .before .before .before in
-    if-read (s .args .chart .now) (s .args .image .now) (start s) _ (read .read-chart .result) _
+    if-read (s .args .chart .now) (λ m. (m, s .args .image .now)) (start s) _ (read .read-chart .result) _
     (le-ltb _ _ (read .before .if1 .left)) (read .read-chart .ensures) (c .before .before .before .before .before .if2 .left) (c .before .before .start-chart .ensures)
 
 pub tolwaziho-start-spec : {M : Type 1} → statement M
