@@ -33,11 +33,13 @@ use Rattle.cycle.proofs.cycling.Tested.{outputs-long}
 use Rattle.shift.specs.Shifting.{Done, answerOf, called, onward, singly, listsFit, shiftCode, shiftOf}
 use Rattle.shift.specs.declared.shifting.Shifted.{Shifted}
 use Rattle.shift.proofs.shifting.Laws.{fit}
+use Rattle.tally.specs.Tallying.{tallyOf}
 use Rattle.claims.specs.Answers.{oneOf, startNumbers}
 use Rattle.claims.specs.Fair.{fair}
 use Rattle.claims.specs.Ledger.{ledger}
 use Rattle.claims.specs.Numbers.{cycle-each, left-alone, rest-kept}
 use Rattle.claims.specs.Runs.{Call, answer, after, history, one, arrivals, departures, begun}
+use Rattle.claims.specs.Tally.{tallied, tally-counts}
 use Rattle.claims.specs.Weights.{Balanced, initialWeight, never-together}
 
 -- ---- what is claimed
@@ -261,6 +263,9 @@ module _ (c : Chart) (clock lent : ℕ) (e : startOf c clock lent .code ≡ 0) (
 
   abbrev pub calls : List Call
   calls = xs ++ callsOf clocks inputs (length out) (shifted .accepted)
+
+  pub shift-tally : tallyOf c (shifted .run) ≡ tallied c (begun c clock lent) calls
+  shift-tally = rw (shift-after c (begun c clock lent) xs clocks inputs words out) (tally-counts c clock lent e calls)
 
   pub shift-ledger : (k : ℕ) → k < c .steps
       → one (initialAt (c .initial) k) + arrivals c k (history c (begun c clock lent) calls)
