@@ -109,12 +109,14 @@ module _ (P : ℕ → Type 0) where
     pub start-each : P 15 → (c : Chart) (clock lent : ℕ) → P (startOf c clock lent .code)
     start-each p15 c clock lent = rw (start-code c clock lent) (else-each P _ _ (either P (leb 32 lent) 0 15 p0 p15) (chart-each P p0 p4 p5 p6 p7 p9 p8 c))
 
+    pub ready-each : P 15 → P 12 → (c : Chart) (r : Run) (lent : ℕ) → P (readyCode c r lent)
+    ready-each p15 p12 c r lent =
+        else-each P _ _ (either P (leb 32 lent) 0 15 p0 p15) (else-each P _ _ (chart-each P p0 p4 p5 p6 p7 p9 p8 c) (either P (belongs c r) 0 12 p0 p12))
+
     pub cycle-each : P 15 → P 12 → P 11 → (c : Chart) (r : Run) (clock inputs lent : ℕ) → P (cycleOf c r clock inputs lent .code)
     cycle-each p15 p12 p11 c r clock inputs lent =
         rw (cycle-code c r clock inputs lent)
-        (else-each P (readyCode c r lent) (lateCode r clock)
-        (else-each P _ _ (either P (leb 32 lent) 0 15 p0 p15) (else-each P _ _ (chart-each P p0 p4 p5 p6 p7 p9 p8 c) (either P (belongs c r) 0 12 p0 p12)))
-        (either P (leb (elapsed (r .clock) clock) 60000) 0 11 p0 p11))
+        (else-each P (readyCode c r lent) (lateCode r clock) (ready-each p15 p12 c r lent) (either P (leb (elapsed (r .clock) clock) 60000) 0 11 p0 p11))
 
     pub tally-each : P 12 → (c : Chart) (r : Run) → P (tallyOf c r .code)
     tally-each p12 c r = rw (tally-code c r) (else-each P _ _ (chart-each P p0 p4 p5 p6 p7 p9 p8 c) (either P (belongs c r) 0 12 p0 p12))

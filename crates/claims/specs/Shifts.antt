@@ -4,7 +4,7 @@
 -- number stay. Refusals: 15, chart, 12, then 18 when the three lists differ in length or exceed 4,096, all before any cycle, with 0 accepted and
 -- nothing written; then 11, at its place."
 use Prim.Native.Nat.{ℕ, zero, suc, _+_, _≤_, _<_}
-use mathlib.Core.Bool.{Bool, true, false, _&&_, cond}
+use mathlib.Core.Bool.{Bool, true, false, cond}
 use mathlib.Core.List.{List, [], _∷_, _++_}
 use mathlib.Core.Logic.{⊎-elim}
 use mathlib.Core.Path.{_≡_, refl, sym, ap, _∙_}
@@ -13,15 +13,15 @@ use native.Mathlib.Omega.{arith}
 use lib.IntN.{ℤ}
 use lib.ListN.{length, getD, set, drop, length-set}
 use lib.Seq.{getD-set-same, getD-set-other}
-use lib.Dec.{leb, eqb}
-use borrow.Author.Tests.{leb-true, le-leb, lt-leb, eqb-true, eqb-false, eq-eqb, ne-eqb}
+use lib.Dec.{eqb}
+use borrow.Author.Tests.{le-leb, lt-leb, eqb-true, eqb-false, eq-eqb, ne-eqb}
 use Rattle.sets.specs.Loops.{turns}
 use Rattle.sets.specs.Sets.{has}
-use Rattle.sets.proofs.Loops.{and-true, else-zero}
+use Rattle.sets.proofs.Loops.{else-zero}
 use Rattle.fields.specs.Fields.{unless}
 use Rattle.chart.specs.Held.{initialAt, chartCode}
 use Rattle.chart.specs.declared.chart.Chart.{Chart}
-use Rattle.chart.proofs.held.Each.{either, else-each, chart-each}
+use Rattle.chart.proofs.held.Each.{either, else-each}
 use Rattle.chart.proofs.held.Sound.{fits}
 use Rattle.run.specs.Belongs.{belongs}
 use Rattle.run.specs.declared.run.Run.{Run}
@@ -32,12 +32,12 @@ use Rattle.cycle.proofs.cycling.Laws.{passed as ready-passed}
 use Rattle.cycle.proofs.cycling.Tested.{outputs-long}
 use Rattle.shift.specs.Shifting.{Done, answerOf, called, onward, singly, listsFit, shiftCode, shiftOf}
 use Rattle.shift.specs.declared.shifting.Shifted.{Shifted}
-use Rattle.shift.proofs.shifting.Laws.{fit}
+use Rattle.shift.proofs.shifting.Laws.{before-any, fit}
 use Rattle.tally.specs.Tallying.{tallyOf}
 use Rattle.claims.specs.Answers.{oneOf, startNumbers}
 use Rattle.claims.specs.Fair.{fair}
 use Rattle.claims.specs.Ledger.{ledger}
-use Rattle.claims.specs.Numbers.{cycle-each, left-alone, rest-kept}
+use Rattle.claims.specs.Numbers.{ready-each, cycle-each, left-alone, rest-kept}
 use Rattle.claims.specs.Runs.{Call, answer, after, history, one, arrivals, departures, begun}
 use Rattle.claims.specs.Tally.{tallied, tally-counts}
 use Rattle.claims.specs.Weights.{Balanced, initialWeight, never-together}
@@ -200,7 +200,7 @@ module _ (c : Chart) (r : Run) (clocks inputs words : List ℕ) (out : List ℤ)
 
   -- refused by its tests, or not
   away : (n : ℕ) → tests ≡ n → (n ≡ 0 → ⊥) → done ≡ turnedAway n
-  away n e z = rw (e, ne-eqb n 0 z)
+  away n e z = sym (before-any c r clocks inputs words out n (sym e) z)
 
   let-in : tests ≡ 0 → done ≡ singly c r clocks inputs words out (length clocks)
   let-in e = rw e
@@ -233,9 +233,7 @@ module _ (c : Chart) (r : Run) (clocks inputs words : List ℕ) (out : List ℤ)
       (λ d s.
       let x = call (d .0 .accepted) in
       ⊎-elim (λ q. rw (s .all q) p0) (λ l. rw (s .stops l .1) (cycle-each P p0 p4 p5 p6 p7 p9 p8 p15 p12 p11 c (d .0 .run) (x .clock) (x .inputs) (x .lent))) (eq-or-lt-of-le (s .few)))
-      (else-each P _ _
-      (else-each P _ _ (either P (leb 32 (length out)) 0 15 p0 p15) (else-each P _ _ (chart-each P p0 p4 p5 p6 p7 p9 p8 c) (either P (belongs c r) 0 12 p0 p12)))
-      (either P even 0 18 p0 p18))
+      (else-each P _ _ (ready-each P p0 p4 p5 p6 p7 p9 p8 p15 p12 c r (length out)) (either P even 0 18 p0 p18))
 
   pub shift-answers : ShiftAnswer done
   unfolding singly turns

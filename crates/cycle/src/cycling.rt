@@ -267,7 +267,7 @@ fn moved_on<'a>(
     }
 }
 
-// A cycle that tests 15 and 11 alone, for callers that made the other tests before: what it takes of a chart that passed none of them, `bounded` says.
+// A cycle that tests 15 and 11 alone, for callers that made the other tests before. What it takes of a chart that passed none, `bounded` says.
 pub fn cycle_tested<'a>(
     steps: usize,
     actions: usize,

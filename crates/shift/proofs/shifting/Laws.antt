@@ -67,9 +67,11 @@ module _ (c : Chart) (r : Run) (clocks inputs words : List ℕ) (out : List ℤ)
   tests = shiftCode c r (length out) (length clocks) (length inputs) (length words)
 
   -- "all before any cycle, with 0 accepted and nothing written"
+  pub before-any : (n : ℕ) → n ≡ tests → (n ≡ 0 → ⊥) → _≡_ {A = Done} (answerOf n 0 r, words, out) (shiftOf c r clocks inputs words out)
+  before-any n e z = rw (← e, ne-eqb n 0 z)
+
   refused-by : (n : ℕ) (x : Shifted) → n ≡ tests → (n ≡ 0 → ⊥) → x ≡ answerOf n 0 r → _≡_ {A = Done} (x, words, out) (shiftOf c r clocks inputs words out)
-  refused-by n x e z h =
-      ap {B = Done} (λ (y : Shifted). (y, words, out)) h ∙ rw (← e, ne-eqb n 0 z)
+  refused-by n x e z h = ap {B = Done} (λ (y : Shifted). (y, words, out)) h ∙ before-any n e z
 
   pub not-ready : (n : ℕ) (x : Shifted) → n ≡ readyCode c r (length out) → (n ≡ 0 → ⊥) → x ≡ answerOf n 0 r → _≡_ {A = Done} (x, words, out) (shiftOf c r clocks inputs words out)
   not-ready n x e z = refused-by n x (e ∙ stops _ _ (λ q. z (e ∙ q))) z

@@ -1,6 +1,6 @@
 -- The calls made so far, the last accepted; the chart and the run stay ready for the next.
 use Prim.Native.Nat.{_≤_, _-_}
-use mathlib.Core.Path.{_≡_, refl, sym, ap, _∙_}
+use mathlib.Core.Path.{_≡_, refl, ap, _∙_}
 use denote.Ref.{now}
 use native.Mathlib.Nat.{le-antisymm}
 use native.Mathlib.Omega.{arith}
