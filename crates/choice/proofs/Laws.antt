@@ -2,17 +2,15 @@
 -- entered was not.
 use Prim.Native.Nat.{ℕ, zero, suc, _<_}
 use mathlib.Core.List.{List}
-use mathlib.Core.Bool.{Bool, true, false, _&&_, _||_, not, cond}
-use mathlib.Core.Path.{_≡_, refl, sym, ap, _∙_}
+use mathlib.Core.Bool.{Bool, true, false, _&&_, cond}
+use mathlib.Core.Path.{_≡_, refl, sym, _∙_}
 use lib.ListN.{getD}
-use native.Mathlib.Omega.{arith}
-use borrow.Author.Tests.{le-leb}
 use Rattle.sets.specs.Loops.{turns}
 use Rattle.sets.specs.Sets.{has, Within, Apart}
-use Rattle.sets.proofs.Loops.{and-true, or-true, true-all}
+use Rattle.sets.proofs.Loops.{and-true}
 use Rattle.sets.proofs.Members.{has-zero}
 use Rattle.sets.proofs.Below.{has-union, within-has, apart-has, either, never}
-use Rattle.choice.specs.Choice.{ready, ripeAt, ripe, takes, choosingAt, chosen}
+use Rattle.choice.specs.Choice.{ready, ripe, takes, choosingAt, chosen}
 use Rattle.choice.specs.declared.Choice.{Choice}
 
 record Fair (active k : ℕ) (ch : Choice) : Type 0 where
@@ -58,9 +56,3 @@ module _ (sources targets on off wait counts : List ℕ) (active signals k : ℕ
       go : (b : Bool) → has (chosen n sources targets on off wait counts active signals .claimed) k ≡ b → b ≡ false
       go true e = never (sym (fair n .claimed e) ∙ fair n .left h)
       go false e = refl
-
--- a wait of 0 is over at once
-pub at-once : (wait sources : ℕ) (counts : List ℕ) → wait ≡ 0 → true ≡ ripe wait sources counts
-at-once wait sources counts z =
-    sym (true-all (λ k. ripeAt wait sources k (getD counts k 0)) 64
-    (λ k l. ap (λ (b : Bool). not (has sources k) || b) (le-leb wait (getD counts k 0) (omega (arith, z))) ∙ or-true (not (has sources k))))

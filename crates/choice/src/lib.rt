@@ -1,6 +1,6 @@
 // Paragraph 2 of "One cycle", for one transition: whether it is taken, after those that are.
 ghost use mathlib.Core.Path.{_≡_};
-ghost use Rattle.choice.specs.Choice.{ripeAt, ripe, ready, takes, choosing};
+ghost use Rattle.choice.specs.Choice.{ripe, ready, takes, choosing};
 
 // The transitions taken so far, their sources and their targets.
 pub struct Choice {
@@ -9,24 +9,18 @@ pub struct Choice {
     pub claimed: u64,
 }
 
-fn ripe_at(wait: u32, sources: u64, k: usize, count: u32) -> bool
-    ensures { λ r. ⌜ r ≡ ripeAt wait sources k count ⌝ }
-{
-    !sets::is_in(sources, k) | (wait <= count)
-}
-
+// Only the sources are visited: any other step is ripe whatever its counter is (document 02, request v).
 fn is_ripe(wait: u32, sources: u64, counts: &[u32; 64]) -> bool
     ensures { λ r. ⌜ r ≡ ripe wait sources (now (counts .entry)) ⌝ }
 {
-    if wait == 0 {
-        return true;
-    }
-    let mut k = 0;
-    while k < 64 {
-        if !ripe_at(wait, sources, k, counts[k]) {
+    let mut rest = sources;
+    while rest != 0 {
+        let k = sets::first(rest);
+        let reached = wait <= counts[k];
+        if !reached {
             return false;
         }
-        k += 1;
+        rest = sets::without_first(rest);
     }
     true
 }

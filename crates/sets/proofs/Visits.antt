@@ -23,8 +23,12 @@ pub record Visited (P : ℕ → Type 0) (n s rest : ℕ) : Type 0 where
   pub passed : (j : ℕ) → j < n → has rest j ≡ false → P j
 
 module _ {P : ℕ → Type 0} {n s : ℕ} where
-  pub visited-start : n ≤ 64 → ((j : ℕ) → j < n → has s j ≡ false → P j) → Visited P n s (s % 2 ^ n)
-  visited-start a f = record { few = a; small = mod-lt s (pow-pos n); within = λ j l e. sym (has-mod n s j l) ∙ e; passed = λ j l e. f j l (sym (has-mod n s j l) ∙ e) }
+  -- only the members below n are to be visited
+  pub visited-rest : n ≤ 64 → ((j : ℕ) → j < n → has s j ≡ false → P j) → Visited P n s (s % 2 ^ n)
+  visited-rest a f = record { few = a; small = mod-lt s (pow-pos n); within = λ j l e. sym (has-mod n s j l) ∙ e; passed = λ j l e. f j l (sym (has-mod n s j l) ∙ e) }
+
+  pub visited-start : n ≤ 64 → s < 2 ^ n → ((j : ℕ) → j < n → has s j ≡ false → P j) → Visited P n s s
+  visited-start a b f = rw (mod-eq-of-lt b) at (visited-rest a f)
 
   pub visited-end : {rest : ℕ} → Visited P n s rest → rest ≡ 0 → (j : ℕ) → j < n → P j
   visited-end v z j l = v .passed j l (ap (λ (x : ℕ). has x j) z ∙ has-zero j)
@@ -65,9 +69,8 @@ pub record Filled {A : Type 0} (d : A) (g : ℕ → A) (n s rest : ℕ) (l : Lis
   pub visited : Visited (λ j. getD l j d ≡ g j) n s rest
 
 module _ {A : Type 0} {d : A} {g : ℕ → A} {n s : ℕ} where
-  -- only the members below n are to be visited
   pub filled-rest : n ≤ 64 → ((j : ℕ) → has s j ≡ false → d ≡ g j) → Filled d g n s (s % 2 ^ n) (replicate n d)
-  filled-rest a f = record { long = length-replicate n d; visited = visited-start a (λ j l e. getD-replicate n j d d l ∙ f j e) }
+  filled-rest a f = record { long = length-replicate n d; visited = visited-rest a (λ j l e. getD-replicate n j d d l ∙ f j e) }
 
   pub filled-start : n ≤ 64 → s < 2 ^ n → ((j : ℕ) → has s j ≡ false → d ≡ g j) → Filled d g n s s (replicate n d)
   filled-start a b f = rw (mod-eq-of-lt b) at (filled-rest a f)

@@ -1,54 +1,57 @@
--- Every step passed is ripe.
-use borrow.Author.Tests.{not-true, not-false}
-use Prim.Native.Nat.{_≤_, _-_}
-use denote.Ref.{now}
-use mathlib.Core.Path.{_≡_, sym, _∙_}
-use native.Mathlib.Omega.{arith}
-use borrow.Author.Needs.{needs}
+-- Every source passed has reached the wait, and a step that is no source is ripe from the beginning: looking at the sources is looking at all 64.
+use mathlib.Core.Path.{_≡_, refl, sym}
 use mathlib.Core.Bool.{true}
+use native.Mathlib.Omega.{arith}
 use lib.ListN.{getD}
-use Rattle.sets.specs.Loops.{all}
-use Rattle.sets.proofs.Loops.{all-start, all-turn, all-fails, all-done}
+use borrow.Author.Needs.{needs}
+use borrow.Author.Tests.{not-true, not-false}
+use Rattle.sets.proofs.Loops.{true-all, all-fails}
+use Rattle.sets.proofs.Visits.{Visited, visited-start, visited-turn, visited-end, visit-lt, visit-has, visit-less}
 use Rattle.choice.specs.Choice.{ripeAt}
-use Rattle.choice.proofs.Laws.{at-once}
 use Rattle.choice.proofs.is_ripe.Statement.{statement}
 use Rattle.choice.proofs.is_ripe.Tie as tie
 
 abbrev Inv-loop : tie.InvT-loop
-Inv-loop wait sources counts k₀ k = (true ≡ all (λ j. ripeAt wait sources j (getD counts j 0)) k) × (k ≤ 64)
+Inv-loop wait sources counts rest₀ rest = Visited (λ j. ripeAt wait sources j (getD counts j 0) ≡ true) 64 sources rest
 
 abbrev μ-loop : tie.MeasureT-loop
-μ-loop wait sources counts k₀ k = 64 - k
-
-returns : tie.Need-returns Inv-loop μ-loop
-returns c = let a = c .before .args in at-once (a .wait) (a .sources) (now (a .counts)) (c .if1 .taken)
+μ-loop wait sources counts rest₀ rest = rest
 
 loop-holds : tie.Need-loop-holds Inv-loop μ-loop
-loop-holds c = (all-start _, omega arith)
+loop-holds c = visited-start (omega arith) (search needs) (λ j l n. rw n)
 
-mul-ripe-at : tie.Need-mul-ripe-at Inv-loop μ-loop
-mul-ripe-at c = omega arith
+first-requires : tie.Need-first-requires Inv-loop μ-loop
+first-requires c κs = search needs
 
-element-copy-out-ripe-at : tie.Need-element-copy-out-ripe-at Inv-loop μ-loop
-element-copy-out-ripe-at c = omega arith
+element-copy-out-reached : tie.Need-element-copy-out-reached Inv-loop μ-loop
+element-copy-out-reached c = visit-lt (c .before .before .loop .inv) (c .before .loop-test .taken) (c .first .ensures)
 
-ripe-at-requires : tie.Need-ripe-at-requires Inv-loop μ-loop
-ripe-at-requires c κs = search needs
+mul-reached : tie.Need-mul-reached Inv-loop μ-loop
+mul-reached c = omega (arith, element-copy-out-reached c)
 
-returns-2 : tie.Need-returns-2 Inv-loop μ-loop
-returns-2 c = all-fails _ 64 (c .before .before .before .before .loop .k) (omega arith) (c .before .ripe-at .ensures) (not-true _ (c .if2 .taken))
+returns : tie.Need-returns Inv-loop μ-loop
+returns c =
+    let v = c .before .before .before .before .loop .inv in
+    let z = c .before .before .before .loop-test .taken in
+    let e = c .before .before .first .ensures in
+    all-fails _ 64 (c .before .before .first .result) (visit-lt v z e) refl (rw (visit-has v z e) (not-true _ (c .if1 .taken)))
 
-add-k : tie.Need-add-k Inv-loop μ-loop
-add-k c = omega arith
+without-first-requires : tie.Need-without-first-requires Inv-loop μ-loop
+without-first-requires c κs = search needs
 
 loop-less : tie.Need-loop-less Inv-loop μ-loop
-loop-less c = omega arith
+loop-less c =
+    visit-less (c .before .before .before .before .before .loop .inv) (c .before .before .before .before .loop-test .taken) (c .before .before .before .first .ensures) (c .without-first .ensures)
 
 loop-again : tie.Need-loop-again Inv-loop μ-loop
-loop-again c = (sym (not-false _ (c .if2 .left)) ∙ all-turn _ _ (c .before .before .before .before .loop .inv .0) (c .before .ripe-at .ensures), omega arith)
+loop-again c =
+    let v = c .before .before .before .before .before .loop .inv in
+    let z = c .before .before .before .before .loop-test .taken in
+    let e = c .before .before .before .first .ensures in
+    visited-turn v z e (c .without-first .ensures) (λ j n p. p) (rw (visit-has v z e) (not-false _ (c .before .if1 .left)))
 
-returns-3 : tie.Need-returns-3 Inv-loop μ-loop
-returns-3 c = let l = c .before .loop in all-done _ (l .k) (l .inv .0) (c .loop-test .left) (l .inv .1)
+returns-2 : tie.Need-returns-2 Inv-loop μ-loop
+returns-2 c = sym (true-all _ 64 (visited-end (c .before .loop .inv) (c .loop-test .left)))
 
 pub is-ripe-spec : {M : Type 1} → statement M
 is-ripe-spec =
@@ -56,13 +59,12 @@ is-ripe-spec =
     (tie.spec
     Inv-loop
     μ-loop
-    returns
     loop-holds
-    mul-ripe-at
-    element-copy-out-ripe-at
-    ripe-at-requires
-    returns-2
-    add-k
+    first-requires
+    mul-reached
+    element-copy-out-reached
+    returns
+    without-first-requires
     loop-less
     loop-again
-    returns-3)
+    returns-2)
