@@ -39,7 +39,7 @@ NEEDED = (
     + [f"{NAMES[q]} active" for q in range(11) if q != R] + [f"{NAMES[q]} not active" for q in TIMED + (P, P1)] + ["R resets"]
     + ["P not active at leaving", "transitions taken", "forks taken", "joins taken", "two taken in one call"]
     + [f"{NAMES[q]} {when}" for q in TIMED for when in ("at its duration", "one ms before")]
-    + ["taken at its wait", "not taken one ms before"]
+    + ["taken at its wait", "not taken one ms before", "only a later source not at the wait", "taken beside a younger step"]
     + [f"{name} {side}" for name, _, _ in held.CHART + held.RUN if name not in ("value", "clock") for side in ("at its limit", "above it")]
     + ["passed", "failed", "not run", "accepted at 60,000 ms", "clock turned", "balanced"]
     + ["written", "written into its length", "written into more", "one byte too few", "written back", "not written back"]
@@ -532,13 +532,18 @@ def count_durations(reached, image, after, counters, timers):
 
 
 def count_waits(reached, image, run_image, elapsed, taken):
-    """Of transitions with all sources active: the least counter at the wait, or one below."""
+    """Of transitions with all sources active: the least counter at the wait, or one below; nothing in the way but a later source's counter; and
+    a step that is no source below the wait."""
+    active = run_image["active"][0]
     for k in range(image["transitions"][0]):
-        sources, wait = image["sources"][k], image["wait"][k]
-        if wait and sources & ~run_image["active"][0] == 0:
-            least = min(run_image["counters"][s] for s in range(64) if has(sources, s)) + elapsed
-            reached["taken at its wait"] += bool(has(taken, k)) and least == wait
-            reached["not taken one ms before"] += not has(taken, k) and least == wait - 1
+        sources, targets, on, off, wait = (image[name][k] for name in ("sources", "targets", "on", "off", "wait"))
+        if wait and sources & ~active == 0:
+            counts = [run_image["counters"][s] + elapsed for s in range(64) if has(sources, s)]
+            others = [run_image["counters"][s] + elapsed for s in range(64) if has(active & ~sources, s)]
+            reached["taken at its wait"] += bool(has(taken, k)) and min(counts) == wait
+            reached["not taken one ms before"] += not has(taken, k) and min(counts) == wait - 1
+            reached["only a later source not at the wait"] += not (taken | targets & active | on | off) and min(counts) < wait <= counts[0]
+            reached["taken beside a younger step"] += bool(has(taken, k)) and min(others, default=wait) < wait
 
 
 def count_call(reached, image, run_image, clock, answer):

@@ -340,6 +340,14 @@ for wait, reached in {0: {0, 1, 2, 499, 500, 501}, 1: {1, 2, 499, 500, 501}, 500
 show("two sources with different counters", net(4, [0, 1], ([1], [2], [0]), ([0, 2], [3], [], [], 100)),
      [(50, {0}), (100, {}), (149, {}), (150, {})],
      taken=[{}, {0}, {}, {}, {1}], counters=[{}, {0: 50}, {0: 100, 2: 50}, {0: 149, 2: 99}, {}])
+# document 02, request (v): each source counts, wherever it stands among them, and no other step does
+for late in (5, 31, 63):
+    show(f"of three sources step {late} is the last to reach the wait",
+         net(64, {0, 5, 31, 63} - {late}, ([0], [late], [0]), ([5, 31, 63], [1], [], [], 100)),
+         [(50, {0}), (100, {}), (149, {}), (150, {})], taken=[{}, {0}, {}, {}, {1}],
+         counters=[{}] + [{k: ms - 50 * (k == late) for k in (5, 31, 63) if (k, ms) != (late, 50)} for ms in (50, 100, 149)] + [{}])
+show("a step that is no source has not reached the wait", net(4, [0, 1], ([0], [2], [0]), ([1], [3], [], [], 100)),
+     [(50, {0}), (99, {}), (100, {})], taken=[{}, {0}, {}, {1}], counters=[{}, {1: 50}, {1: 99, 2: 49}, {2: 50}])
 show("the wait begins anew on entering", net(2, [0], ([0], [1]), ([1], [0], [], [], 100)),
      [(50, {}), (149, {}), (150, {}), (160, {}), (259, {}), (260, {})], taken=[{}, {0}, {}, {1}, {0}, {}, {1}])
 
