@@ -2,7 +2,7 @@
 
      bench compare SEED COUNT               COUNT random charts, good and damaged: every answer, image, activity word and file equal, or exit 1
      bench soak    SEED CHARTS N            N thousand cycles on each of CHARTS charts, images compared after each thousand: equal, or exit 1
-     bench cycles  CHART ENGINE SEED N      N cycles of small, typical or full on the engine proved, c or both (both: exit 1 if they differ)
+     bench cycles  CHART ENGINE SEED N      N cycles of small, typical, full or waiting on the engine proved, c or both (both: exit 1 if they differ)
      bench shift   CHART ENGINE SEED N      N cycles, at most 4,096, in one shift
      bench reads   CHART ENGINE SEED N      N readings of the chart's bytes
      bench tests   CHART ENGINE SEED N      N tests of the held chart
@@ -157,6 +157,23 @@ static void full(struct file *f)
 	head(f, 0, 0);
 }
 
+/* Every limit reached, and nearly all of it waits: a ring of 32 pairs of steps, one of each pair active. A transition leaves the active ones of two
+   neighbouring pairs for their others, so that the two sources have been active for different times, and needs no signal but some hundred ms. */
+static void waiting(struct file *f)
+{
+	for (unsigned i = 0; i < 64; i++)
+		step(f, i % 2 == 0);
+	for (unsigned i = 0; i < 32; i++)
+		action(f, any(32), (int32_t)any_word());
+	for (unsigned i = 0; i < 64; i++) {
+		uint64_t sources = BIT(i) | BIT((i + 2) % 64), targets = BIT(i ^ 1) | BIT((i + 2) % 64 ^ 1);
+		transition(f, sources, targets, 0, 0, 500 + any(1500));
+	}
+	some_blocks(f, 256, 64, 32);
+	some_cases(f, 64, 64, 32);
+	head(f, 0, 0);
+}
+
 /* A chart with any fields that fit, then perhaps a damage. */
 static void random_chart(struct file *f)
 {
@@ -231,6 +248,8 @@ static void chart_of(const char *name, struct file *f)
 		typical(f);
 	else if (!strcmp(name, "full"))
 		full(f);
+	else if (!strcmp(name, "waiting"))
+		waiting(f);
 	else {
 		fprintf(stderr, "no chart %s\n", name);
 		exit(2);
@@ -360,10 +379,10 @@ static int soak(uint32_t charts, uint32_t thousands)
 {
 	static struct file f;
 	static struct answer proved, c;
-	static const char *const named[] = { "small", "typical", "full" };
+	static const char *const named[] = { "small", "typical", "full", "waiting" };
 	uint64_t accepted = 0;
 	for (uint32_t k = 0; k < charts; k++) {
-		if (k < 3)
+		if (k < sizeof named / sizeof *named)
 			chart_of(named[k], &f);
 		else
 			do {
