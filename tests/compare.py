@@ -39,7 +39,7 @@ NEEDED = (
     + [f"{NAMES[q]} active" for q in range(11) if q != R] + [f"{NAMES[q]} not active" for q in TIMED + (P, P1)] + ["R resets"]
     + ["P not active at leaving", "transitions taken", "forks taken", "joins taken", "two taken in one call"]
     + [f"{NAMES[q]} {when}" for q in TIMED for when in ("at its duration", "one ms before")]
-    + ["taken at its wait", "not taken one ms before", "only a later source not at the wait", "taken beside a younger step"]
+    + ["taken at its wait", "not taken one ms before", "not taken by a later source", "taken beside a younger step"]
     + [f"{name} {side}" for name, _, _ in held.CHART + held.RUN if name not in ("value", "clock") for side in ("at its limit", "above it")]
     + ["passed", "failed", "not run", "accepted at 60,000 ms", "clock turned", "balanced"]
     + ["written", "written into its length", "written into more", "one byte too few", "written back", "not written back"]
@@ -382,10 +382,11 @@ def put_at_limit(rng, image, run_image):
 
 
 def held_case(seed, number):
-    """A chart's image, a run's, the call's kind and clock, the field put at a limit, and the request."""
+    """A chart's image, a run's, the call's kind, clock and inputs, the field put at a limit, and the request."""
     rng = random.Random(f"held {seed} {number}")
     chart, elapsed = random_chart(rng), rng.choice((0, 1, 60_000, *(rng.randint(0, most) for most in (50, 2000, 60_000))))
-    wanted = rng.choice(chart[3] or [None])
+    joins = [t for t in chart[3] if bits(t[0]) > 1 and t[4]]
+    wanted = rng.choice(joins if joins and rng.random() < 0.4 else chart[3] or [None])
     image, run_image = held.chart_image(b"".join(records(chart))), random_run(rng, chart, elapsed, wanted)
     elapsed = rng.choice((elapsed,) * 15 + (60_001, TURN - 1))
     clock, limit, alteration = (run_image["clock"][0] + elapsed) % TURN, None, rng.random()
@@ -398,8 +399,8 @@ def held_case(seed, number):
             alter_image(rng, layout, target, [len(chart[kind]) for kind in chart])
     lent = rng.choice((32,) * 8 + (0, 31, 33, 64, 255, rng.randrange(256)))
     weights = random_weights(rng, chart) if kind == held.WEIGHING else []
-    return image, run_image, kind, clock, limit, held.request(
-        image, run_image, kind, clock, inputs_for(rng, chart, wanted), lent, weights)
+    inputs = inputs_for(rng, chart, wanted)
+    return image, run_image, kind, clock, inputs, limit, held.request(image, run_image, kind, clock, inputs, lent, weights)
 
 
 def with_junk(rng, image):
@@ -531,28 +532,35 @@ def count_durations(reached, image, after, counters, timers):
             reached[f"{NAMES[q]} one ms before"] += time == duration - 1
 
 
-def count_waits(reached, image, run_image, elapsed, taken):
-    """Of transitions with all sources active: the least counter at the wait, or one below; nothing in the way but a later source's counter; and
-    a step that is no source below the wait."""
+def in_the_way(image, run_image, inputs, taken, k):
+    """What but a wait keeps transition k, with all sources active, from being taken."""
+    before = [t for t in range(k) if has(taken, t)]
+    left, claimed = (word({s for t in before for s in range(64) if has(image[name][t], s)}) for name in ("sources", "targets"))
+    signals, targets = inputs | run_image["activity"][0] << 32, image["targets"][k]
+    return image["sources"][k] & left | image["on"][k] & ~signals | image["off"][k] & signals | targets & (run_image["active"][0] | claimed)
+
+
+def count_waits(reached, image, run_image, elapsed, inputs, taken):
+    """Of transitions with all sources active: the least counter at the wait, or one below; only a counter behind the first source's below it;
+    and below it only one of a step that is no source."""
     active = run_image["active"][0]
     for k in range(image["transitions"][0]):
-        sources, targets, on, off, wait = (image[name][k] for name in ("sources", "targets", "on", "off", "wait"))
+        sources, wait = image["sources"][k], image["wait"][k]
         if wait and sources & ~active == 0:
-            counts = [run_image["counters"][s] + elapsed for s in range(64) if has(sources, s)]
-            others = [run_image["counters"][s] + elapsed for s in range(64) if has(active & ~sources, s)]
+            counts, others = ([run_image["counters"][s] + elapsed for s in range(64) if has(among, s)] for among in (sources, active & ~sources))
             reached["taken at its wait"] += bool(has(taken, k)) and min(counts) == wait
             reached["not taken one ms before"] += not has(taken, k) and min(counts) == wait - 1
-            reached["only a later source not at the wait"] += not (taken | targets & active | on | off) and min(counts) < wait <= counts[0]
+            reached["not taken by a later source"] += min(counts) < wait <= counts[0] and not in_the_way(image, run_image, inputs, taken, k)
             reached["taken beside a younger step"] += bool(has(taken, k)) and min(others, default=wait) < wait
 
 
-def count_call(reached, image, run_image, clock, answer):
+def count_call(reached, image, run_image, clock, inputs, answer):
     """An accepted start (from a run of zeros) or cycle."""
     taken, _, after, activity = answer[:4]
     count_moves(reached, image, taken)
     count_actions(reached, image, run_image["active"][0], after, run_image["activity"][0], activity)
     count_durations(reached, image, after, answer[8:72], answer[72:104])
-    count_waits(reached, image, run_image, (clock - run_image["clock"][0]) % TURN, taken)
+    count_waits(reached, image, run_image, (clock - run_image["clock"][0]) % TURN, inputs, taken)
 
 
 def count_limit(reached, kind, name, above, code):
@@ -564,7 +572,7 @@ def count_limit(reached, kind, name, above, code):
         reached[f"{name} {'above it' if above else 'at its limit'}"] += (code == refusal) == bool(above)
 
 
-def count_held(reached, image, run_image, kind, clock, limit, line):
+def count_held(reached, image, run_image, kind, clock, inputs, limit, line):
     code, *answer = map(int, line.split())
     reached[f"called {('start', 'cycle', 'tally', 'weighing')[kind]}"] += 1
     if limit:
@@ -572,10 +580,10 @@ def count_held(reached, image, run_image, kind, clock, limit, line):
     if code:
         reached[f"refused {code}"] += 1
     elif kind == held.START:
-        count_call(reached, image, held.empty(held.RUN), 0, answer)
+        count_call(reached, image, held.empty(held.RUN), 0, 0, answer)
     elif kind == held.CYCLE:
         count_clock(reached, run_image["clock"][0], clock)
-        count_call(reached, image, run_image, clock, answer)
+        count_call(reached, image, run_image, clock, inputs, answer)
     elif kind == held.TALLY:
         count_tally(reached, answer)
     else:
