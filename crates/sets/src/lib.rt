@@ -80,7 +80,7 @@ pub fn is_in_mod(s: u64, k: usize) -> bool
 pub fn with_if_mod(s: u64, k: usize, b: bool) -> u64
     ensures { λ r. ⌜ r ≡ cond b (insert s (k % 64)) s ⌝ }
 {
-    if b { s | 1 << (k % 64) } else { s }
+    s | (b as u64) << (k % 64)
 }
 
 pub fn beyond(n: usize) -> u64
