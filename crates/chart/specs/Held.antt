@@ -2,11 +2,11 @@
 -- Entries beyond a count play no part."
 use Prim.Native.Nat.{ℕ}
 use mathlib.Core.List.{List}
-use mathlib.Core.Bool.{Bool, _&&_, _||_, not}
+use mathlib.Core.Bool.{Bool, _&&_, not}
 use lib.ListN.{getD}
 use lib.Dec.{leb, eqb}
 use Rattle.sets.specs.Loops.{some, orElse, firstCode}
-use Rattle.fields.specs.Fields.{longest, timed, timing, unless, stepFits, actionFits, transitionCode, blockNames, blockFits, caseFits}
+use Rattle.fields.specs.Fields.{timed, unless, stepFits, actionFits, transitionCode, blockNames, durationFits, blockFits, caseFits}
 use Rattle.chart.specs.declared.chart.Chart.{Chart}
 
 -- "1 to 64 steps, 0 to 32 actions, 0 to 64 transitions, 0 to 256 blocks and 0 to 64 cases"; no step at all is refusal 9
@@ -31,6 +31,10 @@ abbrev pub transitionCodeAt : ℕ → ℕ → List ℕ → List ℕ → List ℕ
 transitionCodeAt steps actions sources targets on off wait i =
     transitionCode steps actions (getD sources i 0) (getD targets i 0) (getD on i 0) (getD off i 0) (getD wait i 0)
 
+-- has none of the three numbers
+abbrev pub transitionPassesAt : ℕ → ℕ → List ℕ → List ℕ → List ℕ → List ℕ → List ℕ → ℕ → Bool
+transitionPassesAt steps actions sources targets on off wait i = eqb (transitionCodeAt steps actions sources targets on off wait i) 0
+
 unfoldable pub transitionsCode : ℕ → ℕ → ℕ → List ℕ → List ℕ → List ℕ → List ℕ → List ℕ → ℕ
 transitionsCode n steps actions sources targets on off wait =
     firstCode (transitionCodeAt steps actions sources targets on off wait) n
@@ -47,11 +51,8 @@ blocksCode n steps actions step action qualifier duration =
 abbrev pub blockNamesAt : ℕ → ℕ → List ℕ → List ℕ → List ℕ → ℕ → Bool
 blockNamesAt steps actions step action qualifier i = blockNames steps actions (getD step i 0) (getD action i 0) (getD qualifier i 0)
 
-abbrev pub durationFitsAt : List ℕ → ℕ → Bool
-durationFitsAt duration i = leb (getD duration i 0) longest
-
-abbrev pub untimedFitsAt : List ℕ → List ℕ → ℕ → Bool
-untimedFitsAt qualifier duration i = eqb (timing (getD qualifier i 0)) 1 || eqb (getD duration i 0) 0
+abbrev pub durationFitsAt : List ℕ → List ℕ → ℕ → Bool
+durationFitsAt qualifier duration i = durationFits (getD qualifier i 0) (getD duration i 0)
 
 abbrev pub caseFitsAt : ℕ → ℕ → List ℕ → List ℕ → List ℕ → ℕ → Bool
 caseFitsAt steps actions step signal expected i = caseFits steps actions (getD step i 0) (getD signal i 0) (getD expected i 0)

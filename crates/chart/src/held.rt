@@ -1,11 +1,12 @@
 // The test of a chart that a caller held and may have altered: 4, then records by kind with 5, 6, 7, then 9, 8.
-// Every call of the engine makes it, so its passes have no branch on what an entry is, but for transitions, which stop at the first refusal,
-// and for timed blocks, which are few.
+// Every call of the engine makes it, so its passes have no branch on what an entry is: only where a transition is refused are they gone through
+// again, for the first number, and blocks of which none is timed are passed over by sixteen.
 ghost use mathlib.Core.Path.{_≡_};
-ghost use Prim.Native.Nat.{_≤_, min};
-ghost use lib.ListN.{length};
-ghost use Rattle.sets.specs.Loops.{all};
-ghost use Rattle.chart.specs.Held.{limitsFit, stepsCode, actionsCode, transitionsCode, blockNamesAt, durationFitsAt, untimedFitsAt, blocksCode, casesCode, someInitial, timedTwice, closingCode, heldCode, chartCode};
+ghost use Prim.Native.Nat.{_+_, _≤_, min};
+ghost use lib.ListN.{length, getD};
+ghost use Rattle.sets.specs.Loops.{all, some};
+ghost use Rattle.fields.specs.Fields.{timed};
+ghost use Rattle.chart.specs.Held.{limitsFit, stepsCode, actionsCode, transitionPassesAt, transitionsCode, blockNamesAt, durationFitsAt, blocksCode, casesCode, someInitial, timedTwice, closingCode, heldCode, chartCode};
 use crate::chart::Chart;
 use crate::chart::at_most;
 use crate::chart::index_of;
@@ -46,6 +47,38 @@ fn actions_code(n: usize, output: &[u8; 32]) -> u8
     fields::unless(fit, BAD_FIELD)
 }
 
+fn transitions_pass<'a>(
+    n: usize,
+    steps: usize,
+    actions: usize,
+    sources: &'a [u64; 64],
+    targets: &'a [u64; 64],
+    on: &'a [u64; 64],
+    off: &'a [u64; 64],
+    wait: &'a [u32; 64],
+) -> bool
+    requires { ⌜ n ≤ 64 ⌝ }
+    ensures { λ r. ⌜ r ≡ all (transitionPassesAt steps actions (now (sources .entry)) (now (targets .entry)) (now (on .entry)) (now (off .entry)) (now (wait .entry))) n ⌝ }
+{
+    let mut pass = true;
+    let mut i = 0;
+    while i < n {
+        let passes = fields::transition_passes(
+            steps,
+            actions,
+            sources[i],
+            targets[i],
+            on[i],
+            off[i],
+            wait[i],
+        );
+        pass = pass & passes;
+        i += 1;
+    }
+    pass
+}
+
+// Which transition is the first refused is asked only where one is.
 fn transitions_code<'a>(
     n: usize,
     steps: usize,
@@ -59,6 +92,9 @@ fn transitions_code<'a>(
     requires { ⌜ n ≤ 64 ⌝ }
     ensures { λ r. ⌜ r ≡ transitionsCode n steps actions (now (sources .entry)) (now (targets .entry)) (now (on .entry)) (now (off .entry)) (now (wait .entry)) ⌝ }
 {
+    if transitions_pass(n, steps, actions, sources, targets, on, off, wait) {
+        return 0;
+    }
     let mut i = 0;
     while i < n {
         let code = fields::transition_code(
@@ -99,27 +135,14 @@ fn block_names_fit<'a>(
     fit
 }
 
-fn durations_fit(n: usize, duration: &[u32; 256]) -> bool
+fn durations_fit<'a>(n: usize, qualifier: &'a [u8; 256], duration: &'a [u32; 256]) -> bool
     requires { ⌜ n ≤ 256 ⌝ }
-    ensures { λ r. ⌜ r ≡ all (durationFitsAt (now (duration .entry))) n ⌝ }
+    ensures { λ r. ⌜ r ≡ all (durationFitsAt (now (qualifier .entry)) (now (duration .entry))) n ⌝ }
 {
     let mut fit = true;
     let mut i = 0;
     while i < n {
-        fit = fit & (duration[i] <= fields::LONGEST);
-        i += 1;
-    }
-    fit
-}
-
-fn untimed_fit<'a>(n: usize, qualifier: &'a [u8; 256], duration: &'a [u32; 256]) -> bool
-    requires { ⌜ n ≤ 256 ⌝ }
-    ensures { λ r. ⌜ r ≡ all (untimedFitsAt (now (qualifier .entry)) (now (duration .entry))) n ⌝ }
-{
-    let mut fit = true;
-    let mut i = 0;
-    while i < n {
-        fit = fit & (fields::is_timed(qualifier[i]) | (duration[i] == 0));
+        fit = fit & fields::duration_fits(qualifier[i], duration[i]);
         i += 1;
     }
     fit
@@ -145,10 +168,11 @@ fn blocks_code<'a>(
         blockaction,
         qualifier,
     );
-    let fit = names & durations_fit(n, duration) & untimed_fit(n, qualifier, duration);
+    let fit = names & durations_fit(n, qualifier, duration);
     fields::unless(fit, BAD_FIELD)
 }
 
+// A Bool for each column: of one for all three the compiler makes something twice as long.
 fn cases_code<'a>(
     n: usize,
     steps: usize,
@@ -162,13 +186,17 @@ fn cases_code<'a>(
 {
     let existing = steps as u8;
     let signals = 32 + actions as u8;
+    let mut named = true;
+    let mut heard = true;
     let mut fit = true;
     let mut i = 0;
     while i < n {
-        fit = fit & (casestep[i] < existing) & (signal[i] < signals) & (expected[i] <= 1);
+        named = named & (casestep[i] < existing);
+        heard = heard & (signal[i] < signals);
+        fit = fit & (expected[i] <= 1);
         i += 1;
     }
-    fields::unless(fit, BAD_FIELD)
+    fields::unless(named & heard & fit, BAD_FIELD)
 }
 
 fn some_initial(n: usize, initial: &[u8; 64]) -> bool
@@ -184,6 +212,22 @@ fn some_initial(n: usize, initial: &[u8; 64]) -> bool
     any
 }
 
+// Whether one of sixteen blocks is timed: the compiler makes a vector of them.
+fn some_timed(at: usize, qualifier: &[u8; 256]) -> bool
+    requires { ⌜ at ≤ 240 ⌝ }
+    ensures { λ r. ⌜ r ≡ some (λ k. timed (getD (now (qualifier .entry)) (at + k) 0)) 16 ⌝ }
+{
+    let mut any = false;
+    let mut k = 0;
+    while k < 16 {
+        any = any | fields::is_timed(qualifier[at + k]);
+        k += 1;
+    }
+    any
+}
+
+// A chart has at most one timed block for each action, so few of its sixteens have one. A look that goes on behind `n` may find one there: then the
+// last blocks are gone through for nothing.
 fn timed_twice<'a>(n: usize, blockaction: &'a [u8; 256], qualifier: &'a [u8; 256]) -> bool
     requires { ⌜ n ≤ 256 ⌝ }
     ensures { λ r. ⌜ r ≡ timedTwice n (now (blockaction .entry)) (now (qualifier .entry)) ⌝ }
@@ -192,12 +236,17 @@ fn timed_twice<'a>(n: usize, blockaction: &'a [u8; 256], qualifier: &'a [u8; 256
     let mut twice = false;
     let mut i = 0;
     while i < n {
-        if fields::is_timed(qualifier[i]) {
-            let a = index_of(blockaction[i]);
-            twice = twice | seen[a];
-            seen[a] = true;
+        let end = at_most(n, i + 16);
+        if some_timed(at_most(i, 240), qualifier) {
+            while i < end {
+                let timed = fields::is_timed(qualifier[i]);
+                let a = index_of(blockaction[i]);
+                twice = twice | (timed & seen[a]);
+                seen[a] = timed | seen[a];
+                i += 1;
+            }
         }
-        i += 1;
+        i = end;
     }
     twice
 }

@@ -3,6 +3,7 @@ use Prim.Native.Nat.{ℕ, _%_, _≤_, _<_, min}
 use mathlib.Core.Bool.{Bool, cond}
 use mathlib.Core.List.{List}
 use mathlib.Core.Path.{_≡_}
+use lib.Dec.{eqb}
 use lib.IntN.{ℤ}
 use lib.ListN.{length, getD}
 use mir.Syntax.{w32}
@@ -10,8 +11,8 @@ use mir.Val.{toZ, ofZ}
 use Rattle.sets.specs.Sets.{has, Within, Apart, Below, union, inter, minus, insert, beyond, first, remove, size}
 use Rattle.sets.proofs.Unique.{is-in-unique, is-within-unique, is-apart-unique, names-below-unique, joined-unique, common-unique, without-unique, with-unique, with-if-unique, is-in-mod-unique, with-if-mod-unique, beyond-unique, first-unique, without-first-unique, size-unique}
 use Rattle.sets.specs.Loops.{orElse}
-use Rattle.fields.specs.Fields.{timed, unless, stepFits, actionFits, transitionCode, blockFits, caseFits}
-use Rattle.fields.proofs.Unique.{is-timed-unique, or-else-unique, unless-unique, step-fits-unique, action-fits-unique, transition-code-unique, block-fits-unique, case-fits-unique}
+use Rattle.fields.specs.Fields.{timed, unless, stepFits, actionFits, transitionCode, durationFits, blockFits, caseFits}
+use Rattle.fields.proofs.Unique.{is-timed-unique, or-else-unique, unless-unique, step-fits-unique, action-fits-unique, transition-passes-unique, transition-code-unique, duration-fits-unique, block-fits-unique, case-fits-unique}
 use Rattle.chart.specs.Chart.{noChart}
 use Rattle.chart.specs.Held.{closingCode, heldCode, chartCode}
 use Rattle.chart.specs.Initial.{initialSet}
@@ -94,7 +95,9 @@ pub record FieldsUnique : Type 0 where
   pub unless : (ok : Bool) (code : ℕ) → One (λ (r : ℕ). r ≡ unless ok code)
   pub step-fits : (initial : ℕ) → One (λ (r : Bool). r ≡ stepFits initial)
   pub action-fits : (output : ℕ) → One (λ (r : Bool). r ≡ actionFits output)
+  pub transition-passes : (steps actions sources targets on off wait : ℕ) → One (λ (r : Bool). r ≡ eqb (transitionCode steps actions sources targets on off wait) 0)
   pub transition-code : (steps actions sources targets on off wait : ℕ) → One (λ (r : ℕ). r ≡ transitionCode steps actions sources targets on off wait)
+  pub duration-fits : (qualifier duration : ℕ) → One (λ (r : Bool). r ≡ durationFits qualifier duration)
   pub block-fits : (steps actions step action qualifier duration : ℕ) → One (λ (r : Bool). r ≡ blockFits steps actions step action qualifier duration)
   pub case-fits : (steps actions step signal expected : ℕ) → One (λ (r : Bool). r ≡ caseFits steps actions step signal expected)
 
@@ -212,7 +215,9 @@ unique = record {
     unless = unless-unique;
     step-fits = step-fits-unique;
     action-fits = action-fits-unique;
+    transition-passes = transition-passes-unique;
     transition-code = transition-code-unique;
+    duration-fits = duration-fits-unique;
     block-fits = block-fits-unique;
     case-fits = case-fits-unique;
   };

@@ -1,56 +1,41 @@
--- The qualifiers' timing by ranges, and a transition's sets by pairs.
-use Prim.Native.Nat.{ℕ, _+_, _≤_, _<_}
-use mathlib.Core.Bool.{Bool, true, false, _&&_, not, cond}
+-- The timed qualifiers by comparisons, a transition's sets by pairs, and its three tests.
+use Prim.Native.Nat.{ℕ, _+_}
+use mathlib.Core.Bool.{Bool, true, false, _&&_, not}
 use mathlib.Core.Path.{_≡_, refl, sym, ap, ap₂, _∙_}
-use lib.Dec.{leb, ltb, eqb}
+use lib.Dec.{leb, eqb}
 use native.Mathlib.Omega.{arith}
-use borrow.Author.Tests.{eqb-true, ne-eqb, lt-leb, le-leb, leb-true, leb-false, lt-ltb, le-ltb}
-use Rattle.sets.specs.Loops.{all}
+use borrow.Author.Tests.{ne-eqb, lt-leb, leb-true, leb-false}
+use Rattle.sets.specs.Loops.{all, orElse}
 use Rattle.sets.specs.Sets.{Apart, Below, union, beyond}
-use Rattle.sets.proofs.Loops.{all-true, and-assoc}
+use Rattle.sets.proofs.Loops.{all-true, and-assoc, and-yes, and-no}
 use Rattle.sets.proofs.Members.{apart-beyond}
-use Rattle.fields.specs.Fields.{timed, timing, longest, signalsExist, transitionFits}
+use Rattle.fields.specs.Fields.{timed, longest, unless, signalsExist, transitionFits, stepsDiffer, transitionCode}
 
-ranged : ℕ → ℕ
-ranged q = cond (leb 3 q && ltb q 9 && not (eqb q 5)) 1 0
+-- both or neither
+iff : Bool → Bool → Bool
+iff true b = b
+iff false b = not b
 
--- one test of all eleven
-timing-known : (q : ℕ) → q < 11 → timing q ≡ cond (leb 3 q && ltb q 9 && not (eqb q 5)) 1 0
-unfolding all ranged
-timing-known q h = eqb-true _ _ (all-true (λ k. eqb (timing k) (ranged k)) 11 refl q h)
+same-bool : (a b : Bool) → iff a b ≡ true → a ≡ b
+unfolding iff
+same-bool true true e = refl
+same-bool false false e = refl
+same-bool true false e = sym e
+same-bool false true e = e
 
-pub timing-timed-range : (q : ℕ) → 3 ≤ q → q < 9 → (q ≡ 5 → ⊥) → timing q ≡ 1
-timing-timed-range q h k z = timing-known q (omega arith) ∙ rw (le-leb 3 q h, lt-ltb q 9 k, ne-eqb q 5 z)
+by-ranges : ℕ → Bool
+by-ranges q = leb 3 q && leb q 8 && not (eqb q 5)
 
-pub timing-low : (q : ℕ) → q < 3 → timing q ≡ 0
-timing-low q h = timing-known q (omega arith) ∙ rw (lt-leb 3 q h)
-
-pub timing-high : (q : ℕ) → 9 ≤ q → q < 11 → timing q ≡ 0
-timing-high q h k = timing-known q k ∙ rw (le-leb 3 q (omega arith), le-ltb q 9 h)
-
-pub timing-unknown : (q : ℕ) → 11 ≤ q → 2 ≡ timing q
-timing-unknown q h =
-    rw (ne-eqb q 3 (λ e. omega arith), ne-eqb q 4 (λ e. omega arith), ne-eqb q 6 (λ e. omega arith), ne-eqb q 7 (λ e. omega arith), ne-eqb q 8 (λ e. omega arith), lt-leb q 10 (omega arith))
-
-pub timing-timed : (q : ℕ) → eqb (timing q) 1 ≡ timed q
-timing-timed q = go (timed q) (leb q 10)
+-- one test of the numbers up to 8, and none above is timed
+pub timed-ranges : (q : ℕ) → leb 3 q && leb q 8 && not (eqb q 5) ≡ timed q
+unfolding all by-ranges iff
+timed-ranges q = go (leb q 8) refl
   where
-    go : (t k : Bool) → eqb (cond t 1 (cond k 0 2)) 1 ≡ t
-    go true k = refl
-    go false true = refl
-    go false false = refl
-
--- a qualifier is one exactly if it is 10 at most
-pub timing-fits : (q : ℕ) → leb q 10 ≡ leb (timing q) 1
-timing-fits q = go (leb q 10) refl
-  where
-    known : (t : Bool) → leb (cond t 1 0) 1 ≡ true
-    known true = refl
-    known false = refl
-
-    go : (b : Bool) → leb q 10 ≡ b → b ≡ leb (timing q) 1
-    go true e = sym (ap (λ (x : ℕ). leb x 1) (timing-known q (omega (arith, leb-true q 10 e))) ∙ known (leb 3 q && ltb q 9 && not (eqb q 5)))
-    go false e = ap (λ (x : ℕ). leb x 1) (timing-unknown q (omega (arith, leb-false q 10 e)))
+    go : (b : Bool) → leb q 8 ≡ b → leb 3 q && leb q 8 && not (eqb q 5) ≡ timed q
+    go true e = same-bool _ _ (all-true (λ k. iff (by-ranges k) (timed k)) 9 refl q (omega (arith, leb-true q 8 e)))
+    go false e =
+        let h = leb-false q 8 e in
+        rw (lt-leb q 8 h, and-no (leb 3 q), ne-eqb q 3 (λ z. omega arith), ne-eqb q 4 (λ z. omega arith), ne-eqb q 6 (λ z. omega arith), ne-eqb q 7 (λ z. omega arith), ne-eqb q 8 (λ z. omega arith))
 
 -- both sets of steps by one test, and both of signals
 pub transition-pairs : (steps actions sources targets on off wait : ℕ)
@@ -60,3 +45,25 @@ transition-pairs steps actions sources targets on off wait =
     ap (λ (x : Bool). x && leb wait longest)
     (ap₂ _&&_ (apart-beyond sources targets steps) (apart-beyond on off (32 + actions))
     ∙ and-assoc (Below sources steps && Below targets steps) (signalsExist on actions) (signalsExist off actions))
+
+-- ---- a transition that passes the tests of all three numbers has none
+
+none-of-three : (a b c : Bool) → a && b && c ≡ eqb (orElse (unless a 5) (orElse (unless b 6) (unless c 7))) 0
+none-of-three true true true = refl
+none-of-three true true false = refl
+none-of-three true false c = refl
+none-of-three false b c = refl
+
+by-numbers : (fits silent apart left reached : Bool) → fits && silent && apart && left && reached ≡ fits && (left && reached && apart) && silent
+by-numbers false s a l r = refl
+by-numbers true true true l r = and-yes (l && r) ∙ and-yes (l && r && true)
+by-numbers true true false l r = rw (and-no (l && r))
+by-numbers true false a l r = sym (and-no (l && r && a))
+
+pub passes : (steps actions sources targets on off wait : ℕ)
+    → transitionFits steps actions sources targets on off wait && Apart on off && Apart sources targets && not (eqb sources 0) && not (eqb targets 0)
+    ≡ eqb (transitionCode steps actions sources targets on off wait) 0
+unfolding transitionCode
+passes steps actions sources targets on off wait =
+    let fits = transitionFits steps actions sources targets on off wait in
+    by-numbers fits (Apart on off) (Apart sources targets) (not (eqb sources 0)) (not (eqb targets 0)) ∙ none-of-three fits (stepsDiffer sources targets) (Apart on off)

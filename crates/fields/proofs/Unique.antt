@@ -2,9 +2,10 @@
 use Prim.Native.Nat.{ℕ}
 use mathlib.Core.Bool.{Bool}
 use mathlib.Core.Path.{_≡_}
+use lib.Dec.{eqb}
 use Rattle.sets.specs.Loops.{orElse}
 use Rattle.sets.proofs.Unique.{one-answer}
-use Rattle.fields.specs.Fields.{timed, unless, stepFits, actionFits, transitionCode, blockFits, caseFits}
+use Rattle.fields.specs.Fields.{timed, unless, stepFits, actionFits, transitionCode, durationFits, blockFits, caseFits}
 
 pub is-timed-unique : (q : ℕ) (r p : Bool) → r ≡ timed q → p ≡ timed q → r ≡ p
 is-timed-unique q r p = one-answer
@@ -23,6 +24,12 @@ action-fits-unique o r q = one-answer
 
 pub transition-code-unique : (s a f g on off w r q : ℕ) → r ≡ transitionCode s a f g on off w → q ≡ transitionCode s a f g on off w → r ≡ q
 transition-code-unique s a f g on off w r q = one-answer
+
+pub transition-passes-unique : (s a f g on off w : ℕ) (r q : Bool) → r ≡ eqb (transitionCode s a f g on off w) 0 → q ≡ eqb (transitionCode s a f g on off w) 0 → r ≡ q
+transition-passes-unique s a f g on off w r q = one-answer
+
+pub duration-fits-unique : (n d : ℕ) (r q : Bool) → r ≡ durationFits n d → q ≡ durationFits n d → r ≡ q
+duration-fits-unique n d r q = one-answer
 
 pub block-fits-unique : (s a k l n d : ℕ) (r q : Bool) → r ≡ blockFits s a k l n d → q ≡ blockFits s a k l n d → r ≡ q
 block-fits-unique s a k l n d r q = one-answer

@@ -43,10 +43,6 @@ P0 = 10
 abbrev pub timed : ℕ → Bool
 timed q = eqb q L || eqb q D || eqb q SD || eqb q DS || eqb q SL
 
--- 0 untimed, 1 timed, 2 no qualifier
-abbrev pub timing : ℕ → ℕ
-timing q = cond (timed q) 1 (cond (leb q P0) 0 2)
-
 -- "Waits and durations are at most 86,400,000"
 abbrev pub longest : ℕ
 longest = 86400000
@@ -85,13 +81,16 @@ transitionCode steps actions sources targets on off wait =
     orElse (unless (transitionFits steps actions sources targets on off wait) 5)
     (orElse (unless (stepsDiffer sources targets) 6) (unless (Apart on off) 7))
 
+-- the last qualifier is 10, P0
 abbrev pub blockNames : ℕ → ℕ → ℕ → ℕ → ℕ → Bool
-blockNames steps actions step action qualifier = ltb step steps && ltb action actions && leb (timing qualifier) 1
+blockNames steps actions step action qualifier = ltb step steps && ltb action actions && leb qualifier P0
 
 -- timed qualifiers "may have duration 0; the others must have duration 0"
+abbrev pub durationFits : ℕ → ℕ → Bool
+durationFits qualifier duration = leb duration longest && (timed qualifier || eqb duration 0)
+
 abbrev pub blockFits : ℕ → ℕ → ℕ → ℕ → ℕ → ℕ → Bool
-blockFits steps actions step action qualifier duration =
-    blockNames steps actions step action qualifier && leb duration longest && (eqb (timing qualifier) 1 || eqb duration 0)
+blockFits steps actions step action qualifier duration = blockNames steps actions step action qualifier && durationFits qualifier duration
 
 abbrev pub caseFits : ℕ → ℕ → ℕ → ℕ → ℕ → Bool
 caseFits steps actions step signal expected =

@@ -2,9 +2,10 @@
 // these, and so each is said once.
 ghost use mathlib.Core.Path.{_≡_};
 ghost use Prim.Native.Nat.{_+_};
+ghost use lib.Dec.{eqb};
 ghost use Rattle.sets.specs.Loops.{orElse};
 ghost use Rattle.sets.specs.Sets.{beyond};
-ghost use Rattle.fields.specs.Fields.{timed, timing, unless, stepFits, actionFits, signalExists, transitionFits, transitionCode, blockFits, caseFits};
+ghost use Rattle.fields.specs.Fields.{timed, unless, stepFits, actionFits, signalExists, transitionFits, transitionCode, durationFits, blockFits, caseFits};
 
 pub mod codes;
 
@@ -15,26 +16,11 @@ use codes::BAD_STEPS;
 // Waits and durations are at most a day.
 pub const LONGEST: u32 = 86_400_000;
 
-const UNTIMED: u8 = 0;
-
-const TIMED: u8 = 1;
-
-const UNKNOWN: u8 = 2;
-
-fn timing_of(qualifier: u8) -> u8
-    ensures { λ r. ⌜ r ≡ timing qualifier ⌝ }
-{
-    match qualifier {
-        3..=4 | 6..=8 => TIMED,
-        0..=10 => UNTIMED,
-        _ => UNKNOWN,
-    }
-}
-
+// By comparisons: a `match` would be a jump for each block, and in a pass over many the compiler makes vectors of these.
 pub fn is_timed(qualifier: u8) -> bool
     ensures { λ r. ⌜ r ≡ timed qualifier ⌝ }
 {
-    timing_of(qualifier) == TIMED
+    (3 <= qualifier) & (qualifier <= 8) & (qualifier != 5)
 }
 
 // The first of two numbers that is not 0.
@@ -89,6 +75,25 @@ fn transition_fits(
         & (wait <= LONGEST)
 }
 
+// Whether a transition has no number of refusal, for a pass over many: the compiler joins the sets that must be empty, and makes vectors of the pass.
+pub fn transition_passes(
+    steps: usize,
+    actions: usize,
+    sources: u64,
+    targets: u64,
+    on: u64,
+    off: u64,
+    wait: u32,
+) -> bool
+    ensures { λ r. ⌜ r ≡ eqb (transitionCode steps actions sources targets on off wait) 0 ⌝ }
+{
+    transition_fits(steps, actions, sources, targets, on, off, wait)
+        & sets::is_apart(on, off)
+        & sets::is_apart(sources, targets)
+        & (sources != 0)
+        & (targets != 0)
+}
+
 pub fn transition_code(
     steps: usize,
     actions: usize,
@@ -109,6 +114,13 @@ pub fn transition_code(
     or_else(field, or_else(ends, signals))
 }
 
+// Two comparisons: of one with a limit that goes by the qualifier the compiler makes a branch.
+pub fn duration_fits(qualifier: u8, duration: u32) -> bool
+    ensures { λ r. ⌜ r ≡ durationFits qualifier duration ⌝ }
+{
+    (duration <= LONGEST) & (is_timed(qualifier) | (duration == 0))
+}
+
 pub fn block_fits(
     steps: usize,
     actions: usize,
@@ -119,12 +131,10 @@ pub fn block_fits(
 ) -> bool
     ensures { λ r. ⌜ r ≡ blockFits steps actions step action qualifier duration ⌝ }
 {
-    let timing = timing_of(qualifier);
     ((step as usize) < steps)
         & ((action as usize) < actions)
-        & (timing <= TIMED)
-        & (duration <= LONGEST)
-        & ((timing == TIMED) | (duration == 0))
+        & (qualifier <= 10)
+        & duration_fits(qualifier, duration)
 }
 
 fn signal_exists(signal: u8, actions: usize) -> bool

@@ -1,18 +1,18 @@
 -- A table whose entries fit or are refused 5 is tested by one test of all.
-use Prim.Native.Nat.{ℕ, _+_, _≤_, _<_, min}
+use Prim.Native.Nat.{ℕ, zero, suc, _+_, _-_, _≤_, _<_, min}
 use mathlib.Core.List.{List}
 use mathlib.Core.Bool.{Bool, true, false, _&&_, _||_}
 use mathlib.Core.Path.{_≡_, refl, sym, ap, ap₂, _∙_}
+use native.Mathlib.Nat.{add-zero}
 use native.Mathlib.Omega.{arith}
 use lib.ListN.{length, getD, set, replicate, length-set, length-replicate, getD-replicate, List·getD-eq-default}
-use lib.Seq.{getD-set-same, getD-set-other}
+use lib.Seq.{getD-set-same, getD-set-other, set-getD}
 use lib.Dec.{leb, ltb, eqb}
 use borrow.Author.Tests.{leb-true, lt-ltb, ltb-true, eqb-true, eqb-false}
 use Rattle.sets.specs.Loops.{all, some, firstCode}
-use Rattle.sets.proofs.Loops.{first-by-test, and-true, some-start, some-turn, some-same, some-capped, all-both, all-done, or-false, or-true, and-yes, and-no}
+use Rattle.sets.proofs.Loops.{first-by-test, and-true, some-start, some-turn, some-none, some-same, some-capped, all-both, all-same, all-done, or-false, or-true, and-yes, and-no}
 use Rattle.fields.specs.Fields.{timed, unless}
-use Rattle.fields.proofs.Laws.{timing-fits, timing-timed}
-use Rattle.chart.specs.Held.{limitsFit, blockNamesAt, durationFitsAt, untimedFitsAt, blockFitsAt, blocksCode, caseFitsAt, initialAt, someInitial, timedFor, timedAgain, timedTwice}
+use Rattle.chart.specs.Held.{limitsFit, blockNamesAt, durationFitsAt, blockFitsAt, blocksCode, caseFitsAt, casesCode, initialAt, someInitial, timedFor, timedAgain, timedTwice}
 
 test-code : (p : ℕ → Bool) (n : ℕ) {fit : Bool} → fit ≡ all p n → unless fit 5 ≡ firstCode (λ k. unless (p k) 5) n
 test-code p n e = ap (λ (x : Bool). unless x 5) e ∙ sym (first-by-test 5 p n (λ z. omega arith))
@@ -20,13 +20,7 @@ test-code p n e = ap (λ (x : Bool). unless x 5) e ∙ sym (first-by-test 5 p n 
 pub column-end : (p : ℕ → Bool) (n i : ℕ) {fit : Bool} {r : ℕ} → r ≡ unless fit 5 → fit ≡ all p i → n ≤ i → i ≤ n → r ≡ firstCode (λ k. unless (p k) 5) n
 column-end p n i e f a b = e ∙ test-code p n (all-done p i f a b)
 
--- ---- the tests of bytes as bytes
-
-pub names-bytes : (s a : ℕ) (bs ba q : List ℕ) (i : ℕ) → ltb (getD bs i 0) s && ltb (getD ba i 0) a && leb (getD q i 0) 10 ≡ blockNamesAt s a bs ba q i
-names-bytes s a bs ba q i = ap (λ (x : Bool). ltb (getD bs i 0) s && ltb (getD ba i 0) a && x) (timing-fits (getD q i 0))
-
-pub untimed-fits : (q d : List ℕ) (i : ℕ) {t : Bool} → t ≡ timed (getD q i 0) → t || eqb (getD d i 0) 0 ≡ untimedFitsAt q d i
-untimed-fits q d i e = ap (λ (x : Bool). x || eqb (getD d i 0) 0) (e ∙ sym (timing-timed (getD q i 0)))
+-- ---- the tests by columns
 
 -- every signal that exists is below 64
 pub case-bytes : (s a : ℕ) (cs sg ex : List ℕ) (i : ℕ) → a ≤ 32 → ltb (getD cs i 0) s && ltb (getD sg i 0) (32 + a) && leb (getD ex i 0) 1 ≡ caseFitsAt s a cs sg ex i
@@ -36,13 +30,27 @@ case-bytes s a cs sg ex i h = ap (λ (x : Bool). x && leb (getD ex i 0) 1) (go (
     go x k true e = rw (lt-ltb k 64 (omega (arith, ltb-true k (32 + a) e))) (and-yes (x && true))
     go x k false e = and-no x ∙ sym (and-no (x && ltb k 64))
 
--- the three tests of all the blocks are one test of each
-pub columns-code : (n s a : ℕ) (bs ba q d : List ℕ)
-    → unless (all (blockNamesAt s a bs ba q) n && all (durationFitsAt d) n && all (untimedFitsAt q d) n) 5 ≡ blocksCode n s a bs ba q d
+-- the three tests of all the cases are one test of each
+pub cases-columns : (n s a : ℕ) (cs sg ex : List ℕ) → a ≤ 32
+    → unless (all (λ i. ltb (getD cs i 0) s) n && all (λ i. ltb (getD sg i 0) (32 + a)) n && all (λ i. leb (getD ex i 0) 1) n) 5 ≡ casesCode n s a cs sg ex
+unfolding casesCode
+cases-columns n s a cs sg ex h =
+    test-code (caseFitsAt s a cs sg ex) n
+    (ap (λ (x : Bool). x && all (λ i. leb (getD ex i 0) 1) n) (all-both _ _ n) ∙ all-both _ _ n ∙ all-same _ _ n (λ i l. case-bytes s a cs sg ex i h))
+
+-- the two tests of all the blocks are one test of each
+pub columns-code : (n s a : ℕ) (bs ba q d : List ℕ) → unless (all (blockNamesAt s a bs ba q) n && all (durationFitsAt q d) n) 5 ≡ blocksCode n s a bs ba q d
 unfolding blocksCode
-columns-code n s a bs ba q d =
-    test-code (blockFitsAt s a bs ba q d) n
-    (ap (λ (x : Bool). x && all (untimedFitsAt q d) n) (all-both (blockNamesAt s a bs ba q) (durationFitsAt d) n) ∙ all-both _ (untimedFitsAt q d) n)
+columns-code n s a bs ba q d = test-code (blockFitsAt s a bs ba q d) n (all-both (blockNamesAt s a bs ba q) (durationFitsAt q d) n)
+
+-- ---- transitions that pass have no number
+
+pub no-code : (f : ℕ → ℕ) (n : ℕ) → all (λ i. eqb (f i) 0) n ≡ true → firstCode f n ≡ 0
+unfolding firstCode all
+no-code f zero e = refl
+no-code f (suc n) e =
+    let both = and-true (all (λ i. eqb (f i) 0) n) (eqb (f n) 0) e in
+    rw (no-code f n (both .0)) (eqb-true (f n) 0 (both .1))
 
 -- ---- the counts within their limits
 
@@ -110,6 +118,29 @@ module _ (acts quals : List ℕ) (seen : List Bool) (twice : Bool) (i : ℕ) (o 
     marks = λ b hb. sym (or-false (getD seen b false)) ∙ some-turn _ i (o .marks b hb) (ap (λ (x : Bool). x && eqb (getD acts i 0) b) e);
     again = sym (or-false twice) ∙ some-turn _ i (o .again) (ap (λ (x : Bool). x && timedFor acts quals (getD acts i 0) i) e);
   }
+
+-- a block, timed or not, without a branch
+pub see : {acts quals : List ℕ} {seen : List Bool} {twice : Bool} {i : ℕ} → Seen acts quals seen twice i
+    → (t : Bool) (a : ℕ) → t ≡ timed (getD quals i 0) → a ≡ getD acts i 0 → a < 256 → Seen acts quals (set seen a (t || getD seen a false)) (twice || (t && getD seen a false)) (i + 1)
+see o true a e q h = one-seen _ _ _ _ _ o a e q h
+see {acts} {quals} {seen} {twice} {i} o false a e q h = rw (set-getD seen a false, or-false twice) (not-seen acts quals seen twice i o e)
+
+-- blocks of which none is timed
+pub pass-over : {acts quals : List ℕ} {seen : List Bool} {twice : Bool} {i : ℕ} → Seen acts quals seen twice i
+    → (k : ℕ) → ((j : ℕ) → i ≤ j → j < i + k → timed (getD quals j 0) ≡ false) → Seen acts quals seen twice (i + k)
+pass-over {acts} {quals} {seen} {twice} {i} o zero h = rw (add-zero i) o
+pass-over {acts} {quals} {seen} {twice} {i} o (suc k) h =
+    let r = not-seen acts quals seen twice (i + k) (pass-over o k (λ j a b. h j a (omega arith))) (sym (h (i + k) (omega arith) (omega arith))) in
+    let e : i + k + 1 ≡ i + suc k = omega arith in
+    rw e at r
+
+-- none of the sixteen from a place on
+pub none-timed : (quals : List ℕ) (at : ℕ) {any : Bool} → any ≡ some (λ k. timed (getD quals (at + k) 0)) 16 → any ≡ false
+    → (j : ℕ) → at ≤ j → j < at + 16 → timed (getD quals j 0) ≡ false
+none-timed quals at e f j a b =
+    let h : at + (j - at) ≡ j = omega arith in
+    let r = some-none (λ k. timed (getD quals (at + k) 0)) 16 (sym e ∙ f) (j - at) (omega arith) in
+    rw h at r
 
 -- ---- tables with the same actions and the same timed blocks
 

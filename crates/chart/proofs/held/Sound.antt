@@ -1,8 +1,8 @@
 -- What a chart that passed the test is: what every part above may rely on.
 use Prim.Native.Nat.{ℕ, _≤_, _<_}
 use mathlib.Core.List.{List}
-use mathlib.Core.Bool.{Bool, true, false, _||_}
-use mathlib.Core.Path.{_≡_, refl, _∙_}
+use mathlib.Core.Bool.{Bool, true, false, _&&_, _||_}
+use mathlib.Core.Path.{_≡_, refl}
 use lib.ListN.{getD}
 use lib.Dec.{leb, ltb, eqb}
 use native.Mathlib.Nat.{lt-of-lt-of-le}
@@ -10,8 +10,7 @@ use native.Mathlib.Omega.{arith}
 use borrow.Author.Tests.{leb-true, ltb-true}
 use Rattle.sets.specs.Sets.{Below}
 use Rattle.sets.proofs.Loops.{and-true, else-zero, first-zero}
-use Rattle.fields.specs.Fields.{unless, signalExists, signalsExist, transitionFits, transitionCode, blockFits, caseFits, actionFits, timing, longest}
-use Rattle.fields.proofs.Laws.{timing-fits}
+use Rattle.fields.specs.Fields.{unless, signalExists, signalsExist, transitionFits, transitionCode, blockNames, blockFits, caseFits, actionFits, timed, longest}
 use Rattle.chart.specs.Held.{limitsFit, stepsCode, actionsCode, transitionsCode, transitionCodeAt, blocksCode, blockFitsAt, casesCode, caseFitsAt, closingCode, heldCode, chartCode}
 use Rattle.chart.specs.declared.chart.Chart.{Chart}
 use Rattle.chart.proofs.held.Laws.{Limits, limits}
@@ -41,11 +40,11 @@ transition-fits s a f g on off w e =
 
 pub block-fits : (steps actions s a q d : ℕ) → blockFits steps actions s a q d ≡ true → (s < steps) × (a < actions) × (q ≤ 10) × (d ≤ longest)
 block-fits steps actions s a q d e =
-    let x = and-true _ (eqb (timing q) 1 || eqb d 0) e in
-    let y = and-true _ (leb d longest) (x .0) in
-    let z = and-true _ (leb (timing q) 1) (y .0) in
+    let x = and-true (blockNames steps actions s a q) (leb d longest && (timed q || eqb d 0)) e in
+    let y = and-true (leb d longest) (timed q || eqb d 0) (x .1) in
+    let z = and-true (ltb s steps && ltb a actions) (leb q 10) (x .0) in
     let v = and-true (ltb s steps) (ltb a actions) (z .0) in
-    (ltb-true _ _ (v .0), ltb-true _ _ (v .1), leb-true _ _ (timing-fits q ∙ z .1), leb-true _ _ (y .1))
+    (ltb-true _ _ (v .0), ltb-true _ _ (v .1), leb-true _ _ (z .1), leb-true _ _ (y .0))
 
 pub case-fits : (steps actions step signal expected : ℕ) → caseFits steps actions step signal expected ≡ true → (step < steps) × (signal < 64) × (expected ≤ 1)
 case-fits steps actions step signal expected e =

@@ -1,12 +1,10 @@
 -- Every block passed names what exists exactly if `fit` says so.
-use denote.Ref.{now}
 use Prim.Native.Nat.{_≤_, _-_}
-use mathlib.Core.Path.{_≡_, _∙_}
+use mathlib.Core.Path.{_≡_, refl, _∙_}
 use native.Mathlib.Omega.{arith}
 use Rattle.sets.specs.Loops.{all}
 use Rattle.sets.proofs.Loops.{all-start, all-turn, and-three, all-done}
 use Rattle.chart.specs.Held.{blockNamesAt}
-use Rattle.chart.proofs.held.Laws.{names-bytes}
 use Rattle.chart.proofs.held.block_names_fit.Statement.{statement}
 use Rattle.chart.proofs.held.block_names_fit.Tie as tie
 
@@ -37,8 +35,7 @@ loop-less c = omega arith
 loop-again : tie.Need-loop-again Inv-loop μ-loop
 loop-again c =
     let l = c .before .before .before .before .loop in
-    let a = c .before .before .before .before .before .args in
-    (and-three (l .fit) _ _ _ ∙ all-turn _ (l .i) (l .inv .0) (names-bytes (a .steps) (a .actions) (now (a .blockstep)) (now (a .blockaction)) (now (a .qualifier)) (l .i)), omega arith)
+    (and-three (l .fit) _ _ _ ∙ all-turn _ (l .i) (l .inv .0) refl, omega arith)
 
 returns : tie.Need-returns Inv-loop μ-loop
 returns c = let l = c .before .loop in all-done _ (l .i) (l .inv .0) (c .loop-test .left) (l .inv .1)

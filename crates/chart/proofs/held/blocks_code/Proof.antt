@@ -1,4 +1,4 @@
--- By its callees' statements: the three tests together are the test of each block.
+-- By its callees' statements: the two tests together are the test of each block.
 use denote.Ref.{now}
 use Rattle.chart.proofs.held.Laws.{columns-code}
 use borrow.Author.Needs.{needs}
@@ -17,16 +17,13 @@ block-names-fit-requires c κs = search needs
 durations-fit-requires : tie.Need-durations-fit-requires
 durations-fit-requires c κs = search needs
 
-untimed-fit-requires : tie.Need-untimed-fit-requires
-untimed-fit-requires c κs = search needs
-
 unless-requires : tie.Need-unless-requires
 unless-requires c κs = search needs
 
 returns : tie.Need-returns
 returns c =
-    let a = c .before .before .before .before .args in
-    rw (c .unless .ensures, c .before .untimed-fit .ensures, c .before .before .durations-fit .ensures, c .before .before .before .block-names-fit .ensures)
+    let a = c .before .before .before .args in
+    rw (c .unless .ensures, c .before .durations-fit .ensures, c .before .before .block-names-fit .ensures)
     (columns-code (a .n) (a .steps) (a .actions) (now (a .blockstep)) (now (a .blockaction)) (now (a .qualifier)) (now (a .duration)))
 
 pub blocks-code-spec : {M : Type 1} → statement M
@@ -37,6 +34,5 @@ blocks-code-spec =
     cast-block-names-fit-2
     block-names-fit-requires
     durations-fit-requires
-    untimed-fit-requires
     unless-requires
     returns)

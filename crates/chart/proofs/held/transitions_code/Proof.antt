@@ -1,4 +1,5 @@
--- No transition passed is refused.
+-- Where all pass there is no number; where one does not, no transition before the first is refused.
+use denote.Ref.{now}
 use Prim.Native.Nat.{_≤_, _-_}
 use mathlib.Core.Path.{_≡_, sym, _∙_}
 use native.Mathlib.Nat.{le-antisymm}
@@ -7,6 +8,7 @@ use borrow.Author.Needs.{needs}
 use Rattle.sets.specs.Loops.{firstCode}
 use Rattle.sets.proofs.Loops.{first-start, first-turn, first-found}
 use Rattle.chart.specs.Held.{transitionCodeAt, transitionsCode}
+use Rattle.chart.proofs.held.Laws.{no-code}
 use Rattle.chart.proofs.held.transitions_code.Statement.{statement}
 use Rattle.chart.proofs.held.transitions_code.Tie as tie
 
@@ -15,6 +17,15 @@ Inv-loop n steps actions sources targets on off wait i₀ i = (firstCode (transi
 
 abbrev μ-loop : tie.MeasureT-loop
 μ-loop n steps actions sources targets on off wait i₀ i = n - i
+
+transitions-pass-requires : tie.Need-transitions-pass-requires Inv-loop μ-loop
+transitions-pass-requires c κs = search needs
+
+returns : tie.Need-returns Inv-loop μ-loop
+unfolding transitionsCode
+returns c =
+    let a = c .before .before .args in
+    sym (no-code (transitionCodeAt (a .steps) (a .actions) (now (a .sources)) (now (a .targets)) (now (a .on)) (now (a .off)) (now (a .wait))) (a .n) (sym (c .before .transitions-pass .ensures) ∙ c .if1 .taken))
 
 loop-holds : tie.Need-loop-holds Inv-loop μ-loop
 loop-holds c = (first-start _, omega arith)
@@ -52,11 +63,11 @@ element-copy-out-transition-code-5 c = omega arith
 transition-code-requires : tie.Need-transition-code-requires Inv-loop μ-loop
 transition-code-requires c κs = search needs
 
-returns : tie.Need-returns Inv-loop μ-loop
+returns-2 : tie.Need-returns-2 Inv-loop μ-loop
 unfolding transitionsCode
-returns c =
+returns-2 c =
     let l = c .before .before .before .before .before .before .before .before .loop in
-    first-found _ (l .i) _ _ (l .inv .0) (c .before .before .before .before .before .before .before .loop-test .taken) (c .before .transition-code .ensures) (c .if1 .taken)
+    first-found _ (l .i) _ _ (l .inv .0) (c .before .before .before .before .before .before .before .loop-test .taken) (c .before .transition-code .ensures) (c .if2 .taken)
 
 add-i : tie.Need-add-i Inv-loop μ-loop
 add-i c = omega arith
@@ -65,11 +76,11 @@ loop-less : tie.Need-loop-less Inv-loop μ-loop
 loop-less c = omega arith
 
 loop-again : tie.Need-loop-again Inv-loop μ-loop
-loop-again c = (first-turn _ _ (c .before .before .before .before .before .before .before .before .loop .inv .0) (sym (c .before .transition-code .ensures) ∙ c .if1 .left), omega arith)
+loop-again c = (first-turn _ _ (c .before .before .before .before .before .before .before .before .loop .inv .0) (sym (c .before .transition-code .ensures) ∙ c .if2 .left), omega arith)
 
-returns-2 : tie.Need-returns-2 Inv-loop μ-loop
+returns-3 : tie.Need-returns-3 Inv-loop μ-loop
 unfolding transitionsCode
-returns-2 c =
+returns-3 c =
     let l = c .before .loop in
     rw (le-antisymm (c .loop-test .left) (l .inv .1)) (sym (l .inv .0))
 
@@ -79,6 +90,8 @@ transitions-code-spec =
     (tie.spec
     Inv-loop
     μ-loop
+    transitions-pass-requires
+    returns
     loop-holds
     mul-transition-code
     element-copy-out-transition-code
@@ -91,8 +104,8 @@ transitions-code-spec =
     mul-transition-code-5
     element-copy-out-transition-code-5
     transition-code-requires
-    returns
+    returns-2
     add-i
     loop-less
     loop-again
-    returns-2)
+    returns-3)
