@@ -20,8 +20,6 @@ pub enum Next {
     },
 }
 
-const LENGTHS: [u16; 6] = [0, 1, 5, 36, 7, 3];
-
 fn kind_fits(kind: u16, before: u16) -> bool
     ensures { λ r. ⌜ r ≡ kindFits kind before ⌝ }
 {
@@ -32,7 +30,14 @@ fn body_length(kind: u16) -> u16
     requires { ⌜ kind ≤ 5 ⌝ }
     ensures { λ r. ⌜ r ≡ bodyLength kind ⌝ }
 {
-    LENGTHS[kind as usize]
+    match kind {
+        0 => 0,
+        1 => 1,
+        2 => 5,
+        3 => 36,
+        4 => 7,
+        _ => 3,
+    }
 }
 
 fn head_code(length: u16, kind: u16, rest: usize, before: u16) -> u8
@@ -53,7 +58,15 @@ fn head_code(length: u16, kind: u16, rest: usize, before: u16) -> u8
 pub fn record_at(bytes: &[u8], at: usize, before: u16) -> Next
     ensures { λ r. ⌜ Answers r (now (bytes .entry)) at before ⌝ }
 {
-    if numbers::left(bytes.len(), at) < 4 {
+    // The place is compared with where the last head may stand, which does not change from record to record.
+    let size = bytes.len();
+    if size < 4 {
+        return Next::Refused {
+            code: CUT,
+            place: at,
+        };
+    }
+    if size - 4 < at {
         return Next::Refused {
             code: CUT,
             place: at,
@@ -62,7 +75,7 @@ pub fn record_at(bytes: &[u8], at: usize, before: u16) -> Next
     let place = at + 4;
     let length = numbers::u16_at(bytes, at);
     let kind = numbers::u16_at(bytes, at + 2);
-    let code = head_code(length, kind, bytes.len() - place, before);
+    let code = head_code(length, kind, size - place, before);
     if code != 0 {
         return Next::Refused { code, place: at };
     }

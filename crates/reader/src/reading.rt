@@ -1,6 +1,6 @@
 // A whole file: record after record into the chart, then what is tested at the end.
 ghost use mathlib.Core.Path.{_≡_};
-ghost use Rattle.reader.specs.Reading.{refused, ended, readChart};
+ghost use Rattle.reader.specs.Reading.{refused, readChart};
 use crate::bodies;
 use crate::bodies::Body;
 use crate::codes::SURPLUS;
@@ -25,31 +25,8 @@ fn refused(code: u8, place: usize) -> Reading
     }
 }
 
-// After the end record, which ends at `next` of `size` bytes: surplus bytes (10), then 9, 8.
-fn ended(size: usize, next: usize, chart: Chart) -> Reading
-    ensures { λ r. ⌜ r ≡ ended size next chart ⌝ }
-{
-    if next < size {
-        return refused(SURPLUS, next);
-    }
-    let code = chart::closing_code(
-        chart.steps,
-        chart.blocks,
-        &chart.initial,
-        &chart.blockaction,
-        &chart.qualifier,
-    );
-    if code != 0 {
-        return refused(code, 0);
-    }
-    Reading {
-        code: 0,
-        place: 0,
-        chart,
-    }
-}
-
-// The fields are stored here, where the chart lives: a function that took the chart would copy it once for each record.
+// The fields are stored here, where the chart lives, and the end is tested here: a function that took the chart would copy it. Each kind is judged in
+// its own arm, so that the kind is asked once.
 pub fn read_chart(bytes: &[u8]) -> Reading
     ensures { λ r. ⌜ r ≡ readChart (now (bytes .entry)) ⌝ }
 {
@@ -60,39 +37,70 @@ pub fn read_chart(bytes: &[u8]) -> Reading
         let next = framing::record_at(bytes, at, before);
         match next {
             Next::Refused { code, place } => return refused(code, place),
-            Next::End => return ended(bytes.len(), at + 4, chart),
+            Next::End => {
+                let end = at + 4;
+                if end < bytes.len() {
+                    return refused(SURPLUS, end);
+                }
+                let code = chart::closing_code(
+                    chart.steps,
+                    chart.blocks,
+                    &chart.initial,
+                    &chart.blockaction,
+                    &chart.qualifier,
+                );
+                if code != 0 {
+                    return refused(code, 0);
+                }
+                return Reading {
+                    code: 0,
+                    place: 0,
+                    chart,
+                };
+            }
             Next::Record {
                 kind,
                 place,
                 length,
             } => {
                 let body = bodies::body_at(bytes, kind, place);
-                let code = bodies::body_code(
-                    body,
-                    chart.steps,
-                    chart.actions,
-                    chart.transitions,
-                    chart.blocks,
-                    chart.cases,
-                );
-                if code != 0 {
-                    return refused(code, at);
-                }
+                let here = at;
                 at = place + length;
                 before = kind;
                 match body {
                     Body::Step(initial) => {
+                        let code = bodies::step_code(chart.steps, initial);
+                        if code != 0 {
+                            return refused(code, here);
+                        }
                         let i = chart.steps;
                         chart.initial[i] = initial;
                         chart.steps = i + 1;
                     }
                     Body::Action(output, value) => {
+                        let code = bodies::action_code(chart.actions, output, value);
+                        if code != 0 {
+                            return refused(code, here);
+                        }
                         let i = chart.actions;
                         chart.output[i] = output;
                         chart.value[i] = value;
                         chart.actions = i + 1;
                     }
                     Body::Transition(sources, targets, on, off, wait) => {
+                        let code = bodies::transition_code(
+                            chart.steps,
+                            chart.actions,
+                            chart.transitions,
+                            sources,
+                            targets,
+                            on,
+                            off,
+                            wait,
+                        );
+                        if code != 0 {
+                            return refused(code, here);
+                        }
                         let i = chart.transitions;
                         chart.sources[i] = sources;
                         chart.targets[i] = targets;
@@ -102,6 +110,18 @@ pub fn read_chart(bytes: &[u8]) -> Reading
                         chart.transitions = i + 1;
                     }
                     Body::Block(step, action, qualifier, duration) => {
+                        let code = bodies::block_code(
+                            chart.steps,
+                            chart.actions,
+                            chart.blocks,
+                            step,
+                            action,
+                            qualifier,
+                            duration,
+                        );
+                        if code != 0 {
+                            return refused(code, here);
+                        }
                         let i = chart.blocks;
                         chart.blockstep[i] = step;
                         chart.blockaction[i] = action;
@@ -110,6 +130,17 @@ pub fn read_chart(bytes: &[u8]) -> Reading
                         chart.blocks = i + 1;
                     }
                     Body::Case(step, signal, expected) => {
+                        let code = bodies::case_code(
+                            chart.steps,
+                            chart.actions,
+                            chart.cases,
+                            step,
+                            signal,
+                            expected,
+                        );
+                        if code != 0 {
+                            return refused(code, here);
+                        }
                         let i = chart.cases;
                         chart.casestep[i] = step;
                         chart.signal[i] = signal;

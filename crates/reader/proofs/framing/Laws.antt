@@ -1,9 +1,9 @@
 -- What the record step's answer says: of the record found, that there is one answer, and that the step does not move after the end or a refusal.
-use Prim.Native.Nat.{ℕ, zero, suc, _+_, _-_, _≤_, _<_}
+use Prim.Native.Nat.{ℕ, _+_, _-_, _≤_, _<_}
 use mathlib.Core.List.{List, [], _∷_}
 use mathlib.Core.Bool.{Bool, true, false, _||_, cond}
 use mathlib.Core.Path.{_≡_, refl, sym, _∙_}
-use lib.ListN.{length, getD}
+use lib.ListN.{length}
 use lib.Dec.{leb, eqb}
 use native.Mathlib.Omega.{arith}
 use borrow.Author.Tests.{le-leb, lt-leb, leb-true, eq-eqb, ne-eqb, eqb-true, eqb-false}
@@ -11,17 +11,6 @@ use Rattle.sets.proofs.Loops.{and-true}
 use Rattle.reader.specs.Framing.{lengthAt, kindAt, bodyLength, kindFits, headNumber, recordNumber, recordValues, numberOf, valuesOf, Answers, placeAfter, kindAfter}
 use Rattle.reader.specs.declared.framing.Next.{Next}
 use Rattle.reader.specs.declared.framing.Next.the-variants.{Record, End, Refused}
-
--- ---- the lengths of the bodies, by kind
-
-pub lengths : (k : ℕ) → getD (0 ∷ 1 ∷ 5 ∷ 36 ∷ 7 ∷ 3 ∷ []) k 0 ≡ bodyLength k
-lengths zero = refl
-lengths (suc zero) = refl
-lengths (suc (suc zero)) = refl
-lengths (suc (suc (suc zero))) = refl
-lengths (suc (suc (suc (suc zero)))) = refl
-lengths (suc (suc (suc (suc (suc zero))))) = refl
-lengths (suc (suc (suc (suc (suc (suc k)))))) = refl
 
 -- ---- from the tests to the answer
 

@@ -6,12 +6,13 @@ use mathlib.Core.Path.{_≡_, refl, sym, _∙_}
 use lib.ListN.{length}
 use lib.Dec.{eqb}
 use native.Mathlib.Omega.{arith}
-use borrow.Author.Tests.{eq-eqb, ne-eqb, ltb-true}
+use borrow.Author.Tests.{eq-eqb, ne-eqb, ltb-true, lt-ltb, le-ltb}
 use Rattle.chart.specs.Chart.{noChart}
+use Rattle.chart.specs.Held.{closingCode}
 use Rattle.chart.specs.declared.chart.Chart.{Chart}
 use Rattle.reader.specs.Framing.{lengthAt, kindAt, recordNumber}
 use Rattle.reader.specs.Bodies.{bodyAt, limited}
-use Rattle.reader.specs.Reading.{refused, ended, withBody, numberIn, taken, readFrom, readChart}
+use Rattle.reader.specs.Reading.{refused, accepted, ended, withBody, numberIn, taken, readFrom, readChart}
 use Rattle.reader.specs.declared.bodies.Body.{Body}
 use Rattle.reader.specs.declared.bodies.Body.the-variants.{Step, Action, Transition, Block, Case}
 use Rattle.reader.proofs.framing.Laws.{Found}
@@ -36,6 +37,19 @@ room c (Action o v) e = ltb-true _ _ (limited-zero _ _ e .0)
 room c (Transition s t on off w) e = ltb-true _ _ (limited-zero _ _ e .0)
 room c (Block s a q d) e = ltb-true _ _ (limited-zero _ _ e .0)
 room c (Case s n m) e = ltb-true _ _ (limited-zero _ _ e .0)
+
+-- ---- after the end record
+
+module _ (size next : ℕ) (c : Chart) where
+  pub ended-surplus : next < size → refused 10 next ≡ ended size next c
+  ended-surplus h = rw (lt-ltb next size h)
+
+  module _ (h : size ≤ next) {n : ℕ} (e : n ≡ closingCode (c .steps) (c .blocks) (c .initial) (c .blockaction) (c .qualifier)) where
+    pub ended-refused : (n ≡ 0 → ⊥) → refused n 0 ≡ ended size next c
+    ended-refused z = rw (le-ltb next size h, ← e, ne-eqb n 0 z)
+
+    pub ended-accepted : n ≡ 0 → accepted c ≡ ended size next c
+    ended-accepted z = rw (le-ltb next size h, ← e, eq-eqb n 0 z)
 
 -- ---- where the loop stands
 

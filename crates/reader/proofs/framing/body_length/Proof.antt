@@ -1,17 +1,27 @@
--- The table of lengths is the sums of the widths.
+-- The lengths are the sums of the widths.
+use mathlib.Core.Path.{_≡_}
+use native.Mathlib.Omega.{arith}
 use borrow.Author.Needs.{needs}
-use Rattle.reader.proofs.framing.Laws.{lengths}
 use Rattle.reader.proofs.framing.body_length.Statement.{statement}
 use Rattle.reader.proofs.framing.body_length.Tie as tie
 
-mul-result : tie.Need-mul-result
-mul-result c = search needs
-
-array-read-result : tie.Need-array-read-result
-array-read-result c = search needs
-
 returns : tie.Need-returns
-returns c = lengths (c .args .kind)
+returns c = search needs
+
+returns-2 : tie.Need-returns-2
+returns-2 c = search needs
+
+returns-3 : tie.Need-returns-3
+returns-3 c = search needs
+
+returns-4 : tie.Need-returns-4
+returns-4 c = search needs
+
+returns-5 : tie.Need-returns-5
+returns-5 c = search needs
+
+returns-6 : tie.Need-returns-6
+returns-6 c = let e : c .before .args .kind ≡ 5 = omega arith in rw e
 
 pub body-length-spec : {M : Type 1} → statement M
-body-length-spec = tie.close (tie.spec mul-result array-read-result returns)
+body-length-spec = tie.close (tie.spec returns returns-2 returns-3 returns-4 returns-5 returns-6)

@@ -16,11 +16,11 @@ number c =
     let h : 4 ≤ length (now (a .bytes)) - a .at = omega arith in
     rw (← headed _ _ _ h) (rw (c .before .before .u16-at .ensures, c .before .u16-at2 .ensures) at (c .head-code .ensures))
 
-left-requires : tie.Need-left-requires
-left-requires c κs = search needs
-
 returns : tie.Need-returns
 returns c = refuses _ _ _ 1 (short _ _ _ (omega arith)) (λ e. omega arith)
+
+returns-2 : tie.Need-returns-2
+returns-2 c = refuses _ _ _ 1 (short _ _ _ (omega arith)) (λ e. omega arith)
 
 add-place : tie.Need-add-place
 add-place c = search needs
@@ -40,33 +40,33 @@ sub-head-code c = search needs
 head-code-requires : tie.Need-head-code-requires
 head-code-requires c κs = search needs
 
-returns-2 : tie.Need-returns-2
-returns-2 c = refuses _ _ _ _ (number (c .before)) (c .if2 .taken)
-
 returns-3 : tie.Need-returns-3
-returns-3 c = ends _ _ _ (sym (c .before .if2 .left) ∙ number (c .before .before)) (sym (c .before .before .before .u16-at2 .ensures) ∙ c .if3 .taken)
-
-cast-t8 : tie.Need-cast-t8
-cast-t8 c = search needs
+returns-3 c = refuses _ _ _ _ (number (c .before)) (c .if3 .taken)
 
 returns-4 : tie.Need-returns-4
-returns-4 c =
+returns-4 c = ends _ _ _ (sym (c .before .if3 .left) ∙ number (c .before .before)) (sym (c .before .before .before .u16-at2 .ensures) ∙ c .if4 .taken)
+
+cast-t10 : tie.Need-cast-t10
+cast-t10 c = search needs
+
+returns-5 : tie.Need-returns-5
+returns-5 c =
     rw (c .before .before .before .u16-at2 .ensures, c .before .before .before .before .u16-at .ensures)
-    (finds _ _ _ (sym (c .before .if2 .left) ∙ number (c .before .before)) (λ e. c .if3 .left (c .before .before .before .u16-at2 .ensures ∙ e)))
+    (finds _ _ _ (sym (c .before .if3 .left) ∙ number (c .before .before)) (λ e. c .if4 .left (c .before .before .before .u16-at2 .ensures ∙ e)))
 
 pub record-at-spec : {M : Type 1} → statement M
 record-at-spec =
     tie.close
     (tie.spec
-    left-requires
     returns
+    returns-2
     add-place
     u16-at-requires
     add-u16-at
     u16-at-requires-2
     sub-head-code
     head-code-requires
-    returns-2
     returns-3
-    cast-t8
-    returns-4)
+    returns-4
+    cast-t10
+    returns-5)
