@@ -139,7 +139,27 @@ fn file_length(
 pub fn write_chart(chart: Chart, bytes: &mut [u8]) -> Writing
     ensures { λ r. ⌜ _≡_ {A = Writing × List ℕ} (r, now (bytes .exit)) (writeChart chart (now (bytes .entry))) ⌝ }
 {
-    let code = chart::chart_code(chart);
+    let code = chart::held_code(
+        chart.steps,
+        chart.actions,
+        chart.transitions,
+        chart.blocks,
+        chart.cases,
+        &chart.initial,
+        &chart.output,
+        &chart.sources,
+        &chart.targets,
+        &chart.on,
+        &chart.off,
+        &chart.wait,
+        &chart.blockstep,
+        &chart.blockaction,
+        &chart.qualifier,
+        &chart.duration,
+        &chart.casestep,
+        &chart.signal,
+        &chart.expected,
+    );
     if code != 0 {
         return refused(code);
     }

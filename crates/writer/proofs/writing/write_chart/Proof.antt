@@ -15,11 +15,16 @@ use Rattle.writer.proofs.writing.write_chart.Statement.{statement}
 use Rattle.writer.proofs.writing.write_chart.Tie as tie
 
 -- what passed, seen from a later place
+abbrev called : tie.After-held-code → tie.Start
+called c =
+    let lent = c .before .before .before .before .before .before .before .before .before .before .before .before .before .before in
+    lent .before .before .before
+
 abbrev call : tie.Else1 → tie.Start
-call c = c .before .before .before
+call c = called (c .before)
 
 chart-zero : (c : tie.Else1) → chartCode (call c .args .t1) ≡ 0
-chart-zero c = sym (c .before .chart-code .ensures) ∙ c .if1 .left
+chart-zero c = sym (c .before .held-code .ensures) ∙ c .if1 .left
 
 chart-sound : (c : tie.Else1) → Sound (call c .args .t1)
 chart-sound c = sound (call c .args .t1) (chart-zero c)
@@ -76,16 +81,16 @@ at-end c = at-cases (c .before .before .before .before)
 wrote-end : (c : tie.After-put-end) → Wrote (at-end c) 6 (c .put-end .last .0) (c .put-end .result)
 wrote-end c = passed-turn (wrote-cases (c .before .before .before .before)) (omega arith) (c .put-end .ensures)
 
-chart-code-requires : tie.Need-chart-code-requires
-chart-code-requires c κs = search needs
+held-code-requires : tie.Need-held-code-requires
+held-code-requires c κs = search needs
 
 refused-requires : tie.Need-refused-requires
 refused-requires c κs = search needs
 
 returns : tie.Need-returns
 returns c =
-    let s = c .before .before .before .before in
-    chart-refused (s .args .t1) (now (s .args .bytes)) (c .before .before .chart-code .ensures) (c .before .if1 .taken) (c .refused .ensures)
+    let s = called (c .before .before) in
+    chart-refused (s .args .t1) (now (s .args .bytes)) (c .before .before .held-code .ensures) (c .before .if1 .taken) (c .refused .ensures)
 
 file-length-requires : tie.Need-file-length-requires
 file-length-requires c κs =
@@ -147,7 +152,7 @@ pub write-chart-spec : {M : Type 1} → statement M
 write-chart-spec =
     tie.close
     (tie.spec
-    chart-code-requires
+    held-code-requires
     refused-requires
     returns
     file-length-requires
