@@ -35,11 +35,13 @@ use Rattle.acting.specs.declared.Asked.{Asked}
 use Rattle.acting.specs.declared.Acted.{Acted}
 use Rattle.acting.proofs.Unique.{asks-unique, put-unique, act-unique}
 use Rattle.run.specs.Run.{noRun, longerCounter, longerTimer}
+use Rattle.run.specs.Apart.{wordsOf, countsOf, timesOf, runOf}
 use Rattle.run.specs.Belongs.{belongsTo}
+use Rattle.run.specs.declared.apart.Words.{Words}
 use Rattle.run.specs.declared.run.StepCounter.{StepCounter}
 use Rattle.run.specs.declared.run.ActionTimer.{ActionTimer}
 use Rattle.run.specs.declared.run.Run.{Run}
-use Rattle.run.proofs.Unique.{belongs-unique, counter-longer-unique, timer-longer-unique, no-run-unique}
+use Rattle.run.proofs.Unique.{belongs-unique, parts-belong-unique, counter-longer-unique, timer-longer-unique, no-run-unique, words-of-unique, counts-of-unique, times-of-unique, run-of-unique}
 use Rattle.cycle.specs.Time.{elapsed}
 use Rattle.cycle.specs.Cycling.{readyCode, startOf, cycleOf, outputsAfter, cycleOn, cycleTested}
 use Rattle.cycle.specs.declared.cycling.Cycled.{Cycled}
@@ -134,12 +136,18 @@ pub record ActingUnique : Type 0 where
   pub put : (asked : Asked) (action : ℕ) (r : Request) → One (λ (q : Asked). q ≡ putting asked (action % 64) r)
   pub act : (asked : Asked) (stored latched : ℕ) → One (λ (r : Acted). r ≡ acted asked stored latched)
 
--- run/src: belongs, run
+-- run/src: apart, belongs, run
 pub record RunUnique : Type 0 where
   pub belongs : (run : Run) (steps actions cases : ℕ) → One (λ (r : Bool). r ≡ belongsTo steps actions cases run)
   pub StepCounter-longer : (self : StepCounter) (e : ℕ) → One (λ (r : StepCounter). r ≡ longerCounter e self)
   pub ActionTimer-longer : (self : ActionTimer) (e : ℕ) → One (λ (r : ActionTimer). r ≡ longerTimer e self)
   pub no-run : One (λ (r : Run). r ≡ noRun)
+  pub parts-belong : (words : Words) (counts times : List ℕ) (steps actions cases : ℕ)
+      → One (λ (r : Bool). (r ≡ belongsTo steps actions cases (runOf words counts times)) × (length counts ≡ 64) × (length times ≡ 32))
+  pub words-of : (run : Run) → One (λ (r : Words). r ≡ wordsOf run)
+  pub counts-of : (counters : List StepCounter) → One (λ (r : List ℕ). (r ≡ countsOf counters) × (length counters ≡ 64))
+  pub times-of : (timers : List ActionTimer) → One (λ (r : List ℕ). (r ≡ timesOf timers) × (length timers ≡ 32))
+  pub run-of : (words : Words) (counts times : List ℕ) → One (λ (r : Run). r ≡ runOf words counts times)
 
 -- cycle/src: cycling, moving, time
 pub record CycleUnique : Type 0 where
@@ -246,6 +254,11 @@ unique = record {
     StepCounter-longer = λ self e. counter-longer-unique e self;
     ActionTimer-longer = λ self e. timer-longer-unique e self;
     no-run = no-run-unique;
+    parts-belong = λ words counts times steps actions cases r q a b. parts-belong-unique words counts times steps actions cases r q (a .0) (b .0);
+    words-of = words-of-unique;
+    counts-of = λ counters r q a b. counts-of-unique counters r q (a .0) (b .0);
+    times-of = λ timers r q a b. times-of-unique timers r q (a .0) (b .0);
+    run-of = run-of-unique;
   };
   cycle = record {
     start = λ chart clock outputs r q f g a b. start-unique chart clock r q outputs f g (a .0) (b .0) (a .1) (b .1);

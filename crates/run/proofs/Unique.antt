@@ -1,10 +1,13 @@
 -- Two answers that one statement allows are equal, for each public function.
 use Prim.Native.Nat.{ℕ}
 use mathlib.Core.Bool.{Bool}
+use mathlib.Core.List.{List}
 use mathlib.Core.Path.{_≡_}
 use Rattle.sets.proofs.Unique.{one-answer}
 use Rattle.run.specs.Run.{noRun, longerCounter, longerTimer}
+use Rattle.run.specs.Apart.{wordsOf, countsOf, timesOf, runOf}
 use Rattle.run.specs.Belongs.{belongsTo}
+use Rattle.run.specs.declared.apart.Words.{Words}
 use Rattle.run.specs.declared.run.StepCounter.{StepCounter}
 use Rattle.run.specs.declared.run.ActionTimer.{ActionTimer}
 use Rattle.run.specs.declared.run.Run.{Run}
@@ -20,3 +23,19 @@ timer-longer-unique e t r q = one-answer
 
 pub belongs-unique : (steps actions cases : ℕ) (run : Run) (r q : Bool) → r ≡ belongsTo steps actions cases run → q ≡ belongsTo steps actions cases run → r ≡ q
 belongs-unique steps actions cases run r q = one-answer
+
+pub words-of-unique : (run : Run) (r q : Words) → r ≡ wordsOf run → q ≡ wordsOf run → r ≡ q
+words-of-unique run r q = one-answer
+
+pub counts-of-unique : (counters : List StepCounter) (r q : List ℕ) → r ≡ countsOf counters → q ≡ countsOf counters → r ≡ q
+counts-of-unique counters r q = one-answer
+
+pub times-of-unique : (timers : List ActionTimer) (r q : List ℕ) → r ≡ timesOf timers → q ≡ timesOf timers → r ≡ q
+times-of-unique timers r q = one-answer
+
+pub run-of-unique : (w : Words) (counts times : List ℕ) (r q : Run) → r ≡ runOf w counts times → q ≡ runOf w counts times → r ≡ q
+run-of-unique w counts times r q = one-answer
+
+pub parts-belong-unique : (words : Words) (counts times : List ℕ) (steps actions cases : ℕ) (r q : Bool)
+    → r ≡ belongsTo steps actions cases (runOf words counts times) → q ≡ belongsTo steps actions cases (runOf words counts times) → r ≡ q
+parts-belong-unique words counts times steps actions cases r q = one-answer

@@ -1,10 +1,15 @@
 // The test of a held run against its chart: "A run belongs to a chart if .."
 ghost use mathlib.Core.Path.{_≡_};
-ghost use Rattle.run.specs.Belongs.{countFits, countersFit, timersFit, namesFit, belongsTo};
-use crate::run::ActionTimer;
+ghost use lib.ListN.{length, getD};
+ghost use Rattle.sets.specs.Loops.{all};
+ghost use Rattle.run.specs.Apart.{runOf};
+ghost use Rattle.run.specs.Belongs.{countFits, namesFit, belongsTo};
+use crate::apart::Words;
+use crate::apart::counts_of;
+use crate::apart::times_of;
+use crate::apart::words_of;
 use crate::run::LONGEST;
 use crate::run::Run;
-use crate::run::StepCounter;
 
 // A count of k, which is 0 unless the set has k.
 fn count_fits(set: u64, k: usize, n: u32) -> bool
@@ -14,29 +19,13 @@ fn count_fits(set: u64, k: usize, n: u32) -> bool
     (n <= LONGEST) & (is_in | (n == 0))
 }
 
-fn counters_fit(counters: [StepCounter; 64], active: u64) -> bool
-    ensures { λ r. ⌜ r ≡ countersFit counters active ⌝ }
+fn counts_fit(counts: &[u32], set: u64) -> bool
+    ensures { λ r. ⌜ r ≡ all (λ k. countFits set k (getD (now (counts .entry)) k 0)) (length (now (counts .entry))) ⌝ }
 {
-    let held = counters;
     let mut fit = true;
     let mut k = 0;
-    while k < 64 {
-        let c = held[k];
-        fit = fit & count_fits(active, k, c.0);
-        k += 1;
-    }
-    fit
-}
-
-fn timers_fit(timers: [ActionTimer; 32], latched: u64) -> bool
-    ensures { λ r. ⌜ r ≡ timersFit timers latched ⌝ }
-{
-    let held = timers;
-    let mut fit = true;
-    let mut k = 0;
-    while k < 32 {
-        let t = held[k];
-        fit = fit & count_fits(latched, k, t.0);
+    while k < counts.len() {
+        fit = fit & count_fits(set, k, counts[k]);
         k += 1;
     }
     fit
@@ -63,21 +52,37 @@ fn names_fit(
         & sets::names_below(bad, cases)
 }
 
+// Whether a run that is taken apart belongs. The lengths are what the types say: of a lent array no proof knows it.
+pub fn parts_belong(
+    words: Words,
+    counts: &[u32; 64],
+    times: &[u32; 32],
+    steps: usize,
+    actions: usize,
+    cases: usize,
+) -> bool
+    ensures { λ r. ⌜ (r ≡ belongsTo steps actions cases (runOf words (now (counts .entry)) (now (times .entry)))) × (length (now (counts .entry)) ≡ 64) × (length (now (times .entry)) ≡ 32) ⌝ }
+{
+    let names = names_fit(
+        steps,
+        actions,
+        cases,
+        words.active,
+        words.activity,
+        words.stored,
+        words.latched,
+        words.good,
+        words.bad,
+    );
+    names & counts_fit(counts, words.active) & counts_fit(times, words.latched)
+}
+
 pub fn belongs(run: Run, steps: usize, actions: usize, cases: usize) -> bool
     ensures { λ r. ⌜ r ≡ belongsTo steps actions cases run ⌝ }
 {
     let counters = run.counters;
     let timers = run.timers;
-    let names = names_fit(
-        steps,
-        actions,
-        cases,
-        run.active,
-        run.activity,
-        run.stored,
-        run.latched,
-        run.good,
-        run.bad,
-    );
-    names & counters_fit(counters, run.active) & timers_fit(timers, run.latched)
+    let counts = counts_of(counters);
+    let times = times_of(timers);
+    parts_belong(words_of(run), &counts, &times, steps, actions, cases)
 }

@@ -1,6 +1,6 @@
 // A run as it is held. Step counters and action timers are two types: one is never handed over for the other.
 ghost use mathlib.Core.Path.{_≡_};
-ghost use Rattle.run.specs.Run.{noRun, longerCounter, longerTimer};
+ghost use Rattle.run.specs.Run.{noRun, longer, longerCounter, longerTimer};
 
 pub struct StepCounter(pub u32);
 
@@ -20,18 +20,23 @@ pub struct Run {
 
 pub const LONGEST: u32 = 86_400_000;
 
+// The sum is made in 64 bits, where it fits, so that one comparison caps it.
+fn capped(n: u32, elapsed: u32) -> u32
+    ensures { λ r. ⌜ r ≡ longer elapsed n ⌝ }
+{
+    let sum = n as u64 + elapsed as u64;
+    if sum < LONGEST as u64 {
+        sum as u32
+    } else {
+        LONGEST
+    }
+}
+
 impl StepCounter {
     pub fn longer(self, elapsed: u32) -> StepCounter
         ensures { λ r. ⌜ r ≡ longerCounter elapsed self ⌝ }
     {
-        let n = self.0;
-        if LONGEST <= n {
-            return StepCounter(LONGEST);
-        }
-        if LONGEST - n <= elapsed {
-            return StepCounter(LONGEST);
-        }
-        StepCounter(n + elapsed)
+        StepCounter(capped(self.0, elapsed))
     }
 }
 
@@ -39,14 +44,7 @@ impl ActionTimer {
     pub fn longer(self, elapsed: u32) -> ActionTimer
         ensures { λ r. ⌜ r ≡ longerTimer elapsed self ⌝ }
     {
-        let n = self.0;
-        if LONGEST <= n {
-            return ActionTimer(LONGEST);
-        }
-        if LONGEST - n <= elapsed {
-            return ActionTimer(LONGEST);
-        }
-        ActionTimer(n + elapsed)
+        ActionTimer(capped(self.0, elapsed))
     }
 }
 

@@ -1,20 +1,34 @@
--- By its callees' statements, the last call first.
+-- The run is its parts put together.
+use mathlib.Core.Path.{_∙_, ap, sym}
 use borrow.Author.Needs.{needs}
+use Rattle.run.specs.Belongs.{belongsTo}
+use Rattle.run.specs.declared.run.Run.{Run}
+use Rattle.run.proofs.apart.Laws.{put-together}
 use Rattle.run.proofs.belongs.belongs.Statement.{statement}
 use Rattle.run.proofs.belongs.belongs.Tie as tie
 
-names-fit-requires : tie.Need-names-fit-requires
-names-fit-requires c κs = search needs
+counts-of-requires : tie.Need-counts-of-requires
+counts-of-requires c κs = search needs
 
-counters-fit-requires : tie.Need-counters-fit-requires
-counters-fit-requires c κs = search needs
+times-of-requires : tie.Need-times-of-requires
+times-of-requires c κs = search needs
 
-timers-fit-requires : tie.Need-timers-fit-requires
-timers-fit-requires c κs = search needs
+words-of-requires : tie.Need-words-of-requires
+words-of-requires c κs = search needs
+
+parts-belong-requires : tie.Need-parts-belong-requires
+parts-belong-requires c κs = search needs
 
 returns : tie.Need-returns
-returns c = rw (c .timers-fit .ensures, c .before .counters-fit .ensures, c .before .before .names-fit .ensures)
+returns c =
+    let words = c .before .before .before in
+    let times = words .before in
+    let counts = times .before in
+    let a = counts .before .before .before .args in
+    c .parts-belong .ensures .0
+    ∙ ap (belongsTo (a .steps) (a .actions) (a .cases)) (sym (put-together (a .run) _ _ _ (words .words-of .ensures) (counts .counts-of .ensures) (times .times-of .ensures)))
 
 pub belongs-spec : {M : Type 1} → statement M
 belongs-spec =
-    tie.close (tie.spec names-fit-requires counters-fit-requires timers-fit-requires returns)
+    tie.close
+    (tie.spec counts-of-requires times-of-requires words-of-requires parts-belong-requires returns)
