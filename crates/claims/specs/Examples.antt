@@ -28,7 +28,8 @@ use Rattle.cycle.specs.Moving.{marksOf}
 use Rattle.cycle.specs.Outputs.{first, outputsOf}
 use Rattle.cycle.specs.Cycling.{startOf, cycleOf, outputsAfter}
 use Rattle.cycle.specs.declared.cycling.Cycled.{Cycled}
-use Rattle.shift.specs.Shifting.{Done, singly, shiftOf}
+use Rattle.cycle.specs.Calling.{singly}
+use Rattle.shift.specs.Shifting.{Done, shiftOf}
 use Rattle.tally.specs.Tallying.{tallyOf}
 use Rattle.tally.specs.Weighing.{weightIn, unbalanced, weighOf}
 use Rattle.claims.specs.Runs.{Call, after, begun}

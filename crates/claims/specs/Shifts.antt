@@ -30,7 +30,8 @@ use Rattle.cycle.specs.Cycling.{readyCode, startOf, cycleOn, outputsAfter}
 use Rattle.cycle.specs.declared.cycling.Cycled.{Cycled}
 use Rattle.cycle.proofs.cycling.Laws.{passed as ready-passed}
 use Rattle.cycle.proofs.cycling.Tested.{outputs-long}
-use Rattle.shift.specs.Shifting.{Done, answerOf, called, onward, singly, listsFit, shiftCode, shiftOf}
+use Rattle.cycle.specs.Calling.{Calls, called, onward, singly}
+use Rattle.shift.specs.Shifting.{Done, answerOf, doneOf, listsFit, shiftCode, shiftOf}
 use Rattle.shift.specs.declared.shifting.Shifted.{Shifted}
 use Rattle.shift.proofs.shifting.Laws.{before-any, fit}
 use Rattle.tally.specs.Tallying.{tallyOf}
@@ -82,7 +83,7 @@ module _ (c : Chart) (r : Run) (clocks inputs words : List ℕ) (out : List ℤ)
     pub bad-chart : 32 ≤ length out → (chartCode c ≡ 0 → ⊥) → d ≡ turnedAway (chartCode c)
     pub other-run : 32 ≤ length out → chartCode c ≡ 0 → belongs c r ≡ false → d ≡ turnedAway 12
     pub uneven : 32 ≤ length out → chartCode c ≡ 0 → belongs c r ≡ true → even ≡ false → d ≡ turnedAway 18
-    pub passed : 32 ≤ length out → chartCode c ≡ 0 → belongs c r ≡ true → even ≡ true → d ≡ singly c r clocks inputs words out (length clocks)
+    pub passed : 32 ≤ length out → chartCode c ≡ 0 → belongs c r ≡ true → even ≡ true → d ≡ doneOf (singly c r clocks inputs words out (length clocks))
     pub none : 32 ≤ length out → chartCode c ≡ 0 → belongs c r ≡ true → length clocks ≡ 0 → length inputs ≡ 0 → length words ≡ 0 → d ≡ turnedAway 0
 
   -- call k, given the outputs `out`
@@ -156,11 +157,13 @@ module _ (c : Chart) (r : Run) (clocks inputs words : List ℕ) (out : List ℤ)
           lent = outputs-long c o z (omega (arith, m .lent)) ∙ m .lent;
         }
 
-    one-call : ShiftCalls (suc n) (called n w (o, outputsAfter c o z))
+    one-call : ShiftCalls (suc n) (doneOf (called n w (o, outputsAfter c o z)))
     one-call = go (eqb (o .code) 0) refl
       where
         go : (b : Bool) → eqb (o .code) 0 ≡ b
-            → ShiftCalls (suc n) (cond b (answerOf 0 (suc n) (o .run), set w n (o .run .activity), outputsAfter c o z) (answerOf (o .code) n (o .run), w, outputsAfter c o z))
+            → ShiftCalls (suc n) (doneOf (cond b
+            (record { code = 0; accepted = suc n; taken = o .taken; run = o .run; activities = set w n (o .run .activity); outputs = outputsAfter c o z })
+            (record { code = o .code; accepted = n; taken = o .taken; run = o .run; activities = w; outputs = outputsAfter c o z })))
         go true h = record { few = omega arith; made = made-more (eqb-true _ 0 h); stops = λ l. absurd (omega arith); all = λ q. refl }
         go false h =
             let no = eqb-false (o .code) 0 h in
@@ -168,23 +171,23 @@ module _ (c : Chart) (r : Run) (clocks inputs words : List ℕ) (out : List ℤ)
             record { few = omega arith; made = rw (left-alone c o z no, back) m; stops = λ l. (no, rw back code); all = λ q. absurd (omega arith) }
 
   -- a call more, unless one before it was refused
-  call-more : (n : ℕ) (d : Done) → 32 ≤ length out → n < length words → ShiftCalls n d → ShiftCalls (suc n) (onward c clocks inputs n d)
-  call-more n d many more s = go (eqb (d .0 .code) 0) refl
+  call-more : (n : ℕ) (d : Calls) → 32 ≤ length out → n < length words → ShiftCalls n (doneOf d) → ShiftCalls (suc n) (doneOf (onward c clocks inputs n d))
+  call-more n d many more s = go (eqb (d .code) 0) refl
     where
-      go : (b : Bool) → eqb (d .0 .code) 0 ≡ b
-          → ShiftCalls (suc n) (cond b (called n (d .1) (cycleOn c (d .0 .run) (getD clocks n 0) (getD inputs n 0) (d .2))) d)
+      go : (b : Bool) → eqb (d .code) 0 ≡ b
+          → ShiftCalls (suc n) (doneOf (cond b (called n (d .activities) (cycleOn c (d .run) (getD clocks n 0) (getD inputs n 0) (d .outputs))) d))
       go true h =
-          let whole : d .0 .accepted < n → ⊥ = λ l. s .stops l .0 (eqb-true _ 0 h) in
-          let e : d .0 .accepted ≡ n = omega (arith, s .few, whole) in
-          let given : ℕ → Cycled = λ lent. answer c (d .0 .run) (callAt clocks inputs lent n) in
-          one-call n (d .0 .run) (d .1) (d .2) many more (rw e at (s .made)) (given (length (d .2))) (ap given (s .made .lent))
+          let whole : d .accepted < n → ⊥ = λ l. s .stops l .0 (eqb-true _ 0 h) in
+          let e : d .accepted ≡ n = omega (arith, s .few, whole) in
+          let given : ℕ → Cycled = λ lent. answer c (d .run) (callAt clocks inputs lent n) in
+          one-call n (d .run) (d .activities) (d .outputs) many more (rw e at (s .made)) (given (length (d .outputs))) (ap given (s .made .lent))
       go false h =
-          let short : d .0 .accepted ≡ n → ⊥ = λ e. eqb-false (d .0 .code) 0 h (s .all e) in
-          let l : d .0 .accepted < n = omega (arith, s .few, short) in
+          let short : d .accepted ≡ n → ⊥ = λ e. eqb-false (d .code) 0 h (s .all e) in
+          let l : d .accepted < n = omega (arith, s .few, short) in
           record { few = omega arith; made = s .made; stops = λ _. s .stops l; all = λ e. absurd (omega arith) }
 
   -- "The result equals the calls made singly"
-  pub shift-calls : (n : ℕ) → 32 ≤ length out → n ≤ length words → ShiftCalls n (singly c r clocks inputs words out n)
+  pub shift-calls : (n : ℕ) → 32 ≤ length out → n ≤ length words → ShiftCalls n (doneOf (singly c r clocks inputs words out n))
   unfolding singly turns
   shift-calls zero many more = record { few = omega arith; made = none-made; stops = λ l. absurd (omega arith); all = λ e. refl }
   shift-calls (suc n) many more = call-more n (singly c r clocks inputs words out n) many more (shift-calls n many (omega arith))
@@ -202,7 +205,7 @@ module _ (c : Chart) (r : Run) (clocks inputs words : List ℕ) (out : List ℤ)
   away : (n : ℕ) → tests ≡ n → (n ≡ 0 → ⊥) → done ≡ turnedAway n
   away n e z = sym (before-any c r clocks inputs words out n (sym e) z)
 
-  let-in : tests ≡ 0 → done ≡ singly c r clocks inputs words out (length clocks)
+  let-in : tests ≡ 0 → done ≡ doneOf (singly c r clocks inputs words out (length clocks))
   let-in e = rw e
 
   -- then the outputs are enough, and there is an activity word for each clock
@@ -244,7 +247,7 @@ module _ (c : Chart) (r : Run) (clocks inputs words : List ℕ) (out : List ℤ)
     other-run = λ h e f. away 12 (rw (le-leb 32 (length out) h, e, f)) (λ q. omega arith);
     uneven = λ h e f g. away 18 (rw (le-leb 32 (length out) h, e, f, g)) (λ q. omega arith);
     passed = λ h e f g. let-in (rw (le-leb 32 (length out) h, e, f, g));
-    none = λ h e f i j k. let-in (rw (le-leb 32 (length out) h, e, f, i, j, k)) ∙ ap (λ (n : ℕ). singly c r clocks inputs words out n) i;
+    none = λ h e f i j k. let-in (rw (le-leb 32 (length out) h, e, f, i, j, k)) ∙ ap (λ (n : ℕ). doneOf (singly c r clocks inputs words out n)) i;
   }
 
 -- ---- so what is claimed of any calls is claimed of shifts among them

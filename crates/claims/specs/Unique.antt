@@ -43,9 +43,10 @@ use Rattle.run.specs.declared.run.ActionTimer.{ActionTimer}
 use Rattle.run.specs.declared.run.Run.{Run}
 use Rattle.run.proofs.Unique.{belongs-unique, parts-belong-unique, counter-longer-unique, timer-longer-unique, no-run-unique, words-of-unique, counts-of-unique, times-of-unique, run-of-unique}
 use Rattle.cycle.specs.Time.{elapsed}
-use Rattle.cycle.specs.Cycling.{readyCode, startOf, cycleOf, outputsAfter, cycleOn, cycleTested}
+use Rattle.cycle.specs.Cycling.{readyAfter, startOf, cycleOf, outputsAfter, cycleOn}
+use Rattle.cycle.specs.Calling.{InParts, inParts, callsOn}
 use Rattle.cycle.specs.declared.cycling.Cycled.{Cycled}
-use Rattle.cycle.proofs.Unique.{start-unique, cycle-unique, cycle-on-unique, ready-code-unique, cycle-tested-unique, elapsed-unique}
+use Rattle.cycle.proofs.Unique.{start-unique, cycle-unique, cycle-on-unique, ready-code-unique, cycles-on-unique, elapsed-unique}
 use Rattle.shift.specs.Shifting.{Done, shiftOf}
 use Rattle.shift.proofs.Unique.{shift-unique}
 use Rattle.trace.specs.Tracing.{callAt, numberOf, traceNumber}
@@ -149,15 +150,17 @@ pub record RunUnique : Type 0 where
   pub times-of : (timers : List ActionTimer) → One (λ (r : List ℕ). (r ≡ timesOf timers) × (length timers ≡ 32))
   pub run-of : (words : Words) (counts times : List ℕ) → One (λ (r : Run). r ≡ runOf words counts times)
 
--- cycle/src: cycling, moving, time
+-- cycle/src: calling, cycling, time
 pub record CycleUnique : Type 0 where
   pub start : (chart : Chart) (clock : ℕ) (outputs : List ℤ)
       → Both (λ (r : Cycled) (exit : List ℤ). (r ≡ startOf chart clock (length outputs)) × (exit ≡ outputsAfter chart r outputs))
   pub cycle : (chart : Chart) (run : Run) (clock inputs : ℕ) (outputs : List ℤ)
       → Both (λ (r : Cycled) (exit : List ℤ). (r ≡ cycleOf chart run clock inputs (length outputs)) × (exit ≡ outputsAfter chart r outputs))
   pub cycle-on : (lent : Chart) (run : Run) (clock inputs : ℕ) (outputs : List ℤ) → One (λ (r : Cycled × List ℤ). r ≡ cycleOn lent run clock inputs outputs)
-  pub ready-code : (lent : Chart) (run : Run) (outputs : ℕ) → One (λ (r : ℕ). r ≡ readyCode lent run outputs)
-  pub cycle-tested : (lent : Chart) (run : Run) (clock inputs : ℕ) (outputs : List ℤ) → One (λ (r : Cycled × List ℤ). r ≡ cycleTested lent run clock inputs outputs)
+  pub ready-code : (held steps actions cases : ℕ) (words : Words) (counts times : List ℕ) (outputs : ℕ)
+      → One (λ (r : ℕ). (r ≡ readyAfter held steps actions cases (runOf words counts times) outputs) × (length counts ≡ 64) × (length times ≡ 32))
+  pub cycles-on : (lent : Chart) (words : Words) (counts times clocks inputs activities : List ℕ) (outputs : List ℤ)
+      → One (λ (r : InParts). r ≡ inParts (callsOn lent (runOf words counts times) clocks inputs activities outputs))
   pub elapsed : (last new : ℕ) → One (λ (r : ℕ). r ≡ elapsed last new)
 
 -- shift/src: shifting
@@ -264,8 +267,8 @@ unique = record {
     start = λ chart clock outputs r q f g a b. start-unique chart clock r q outputs f g (a .0) (b .0) (a .1) (b .1);
     cycle = λ chart run clock inputs outputs r q f g a b. cycle-unique chart run clock inputs r q outputs f g (a .0) (b .0) (a .1) (b .1);
     cycle-on = cycle-on-unique;
-    ready-code = ready-code-unique;
-    cycle-tested = cycle-tested-unique;
+    ready-code = λ held steps actions cases words counts times outputs r q a b. ready-code-unique held steps actions cases (runOf words counts times) outputs r q (a .0) (b .0);
+    cycles-on = λ lent words counts times. cycles-on-unique lent (runOf words counts times);
     elapsed = elapsed-unique;
   };
   shift = record { shift = shift-unique };

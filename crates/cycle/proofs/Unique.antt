@@ -8,14 +8,15 @@ use Rattle.sets.proofs.Unique.{one-answer}
 use Rattle.chart.specs.declared.chart.Chart.{Chart}
 use Rattle.run.specs.declared.run.Run.{Run}
 use Rattle.cycle.specs.Time.{elapsed}
-use Rattle.cycle.specs.Cycling.{readyCode, startOf, cycleOf, outputsAfter, cycleOn, cycleTested}
+use Rattle.cycle.specs.Cycling.{readyAfter, startOf, cycleOf, outputsAfter, cycleOn}
+use Rattle.cycle.specs.Calling.{InParts, inParts, callsOn}
 use Rattle.cycle.specs.declared.cycling.Cycled.{Cycled}
 
 pub elapsed-unique : (last new r q : ℕ) → r ≡ elapsed last new → q ≡ elapsed last new → r ≡ q
 elapsed-unique last new r q = one-answer
 
-pub ready-code-unique : (c : Chart) (run : Run) (lent r q : ℕ) → r ≡ readyCode c run lent → q ≡ readyCode c run lent → r ≡ q
-ready-code-unique c run lent r q = one-answer
+pub ready-code-unique : (held steps actions cases : ℕ) (run : Run) (lent r q : ℕ) → r ≡ readyAfter held steps actions cases run lent → q ≡ readyAfter held steps actions cases run lent → r ≡ q
+ready-code-unique held steps actions cases run lent r q = one-answer
 
 -- the answer, and the lent outputs with it
 both : (c : Chart) (x r q : Cycled) (out f g : List ℤ) → r ≡ x → q ≡ x → f ≡ outputsAfter c r out → g ≡ outputsAfter c q out → (r ≡ q) × (f ≡ g)
@@ -33,5 +34,7 @@ cycle-unique c run clock inputs r q out f g = both c (cycleOf c run clock inputs
 pub cycle-on-unique : (c : Chart) (run : Run) (clock inputs : ℕ) (out : List ℤ) (r q : Cycled × List ℤ) → r ≡ cycleOn c run clock inputs out → q ≡ cycleOn c run clock inputs out → r ≡ q
 cycle-on-unique c run clock inputs out r q = one-answer
 
-pub cycle-tested-unique : (c : Chart) (run : Run) (clock inputs : ℕ) (out : List ℤ) (r q : Cycled × List ℤ) → r ≡ cycleTested c run clock inputs out → q ≡ cycleTested c run clock inputs out → r ≡ q
-cycle-tested-unique c run clock inputs out r q = one-answer
+-- where the run lies: the answer and all that is lent together
+pub cycles-on-unique : (c : Chart) (run : Run) (clocks inputs activities : List ℕ) (out : List ℤ) (r q : InParts)
+    → r ≡ inParts (callsOn c run clocks inputs activities out) → q ≡ inParts (callsOn c run clocks inputs activities out) → r ≡ q
+cycles-on-unique c run clocks inputs activities out r q = one-answer

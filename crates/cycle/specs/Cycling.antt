@@ -17,13 +17,12 @@ use Rattle.acting.specs.Acting.{asked, acted}
 use Rattle.acting.specs.declared.Steps.{Steps}
 use Rattle.acting.specs.declared.Acted.{Acted}
 use Rattle.run.specs.Run.{noRun}
-use Rattle.run.specs.Belongs.{belongs}
+use Rattle.run.specs.Belongs.{belongsTo, belongs}
 use Rattle.run.specs.declared.run.Run.{Run}
 use Rattle.cycle.specs.Time.{elapsed, grownCounts, grownTimes}
 use Rattle.cycle.specs.Choosing.{stepsOf}
 use Rattle.cycle.specs.Moving.{settledCounters, settledTimers, signalsOf, marksOf}
 use Rattle.cycle.specs.Outputs.{outputsOf}
-use Rattle.cycle.specs.Bounds.{bounded}
 use Rattle.cycle.specs.declared.moving.Marks.{Marks}
 use Rattle.cycle.specs.declared.cycling.Cycled.{Cycled}
 
@@ -62,6 +61,10 @@ startCode c lent = orElse (unless (leb 32 lent) 15) (chartCode c)
 -- the tests of a cycle that its clock has no part in: 15, chart, 12
 abbrev pub readyCode : Chart → Run → ℕ → ℕ
 readyCode c r lent = orElse (unless (leb 32 lent) 15) (orElse (chartCode c) (unless (belongs c r) 12))
+
+-- the same by the chart's number
+abbrev pub readyAfter : ℕ → ℕ → ℕ → ℕ → Run → ℕ → ℕ
+readyAfter held steps actions cases r lent = orElse (unless (leb 32 lent) 15) (orElse held (unless (belongsTo steps actions cases r) 12))
 
 -- "11 elapsed time above 60,000 ms"
 abbrev pub lateCode : Run → ℕ → ℕ
@@ -143,13 +146,3 @@ movedOn c r clock inputs out = answered c out (cycled c r clock inputs)
 
 abbrev pub cycleOn : Chart → Run → ℕ → ℕ → List ℤ → Cycled × List ℤ
 cycleOn c r clock inputs out = answered c out (cycleOf c r clock inputs (length out))
-
--- a cycle that tests 15 and 11 alone: of a chart and a run that pass the other tests it is the cycle (proofs/cycling/Tested.antt)
-abbrev pub testedCode : Run → ℕ → ℕ → ℕ
-testedCode r clock lent = orElse (unless (leb 32 lent) 15) (lateCode r clock)
-
-abbrev pub testedOf : Chart → Run → ℕ → ℕ → ℕ → Cycled
-testedOf c r clock inputs lent = cond (eqb (testedCode r clock lent) 0) (cycled c r clock inputs) (refused (testedCode r clock lent) r)
-
-unfoldable pub cycleTested : Chart → Run → ℕ → ℕ → List ℤ → Cycled × List ℤ
-cycleTested c r clock inputs out = answered (bounded c) out (testedOf (bounded c) r clock inputs (length out))

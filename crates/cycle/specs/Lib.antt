@@ -4,3 +4,5 @@ pub mod Moving
 pub mod Outputs
 pub mod Bounds
 pub mod Cycling
+pub mod Stepping
+pub mod Calling

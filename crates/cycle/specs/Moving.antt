@@ -3,7 +3,7 @@
 use Prim.Native.Nat.{ℕ, _-_}
 use mathlib.Core.List.{List}
 use mathlib.Core.Bool.{Bool, Bool·beq, _&&_, not, cond}
-use lib.ListN.{getD}
+use lib.ListN.{length, getD}
 use lib.Dec.{eqb, ltb}
 use Rattle.sets.specs.Loops.{table}
 use Rattle.sets.specs.Sets.{has, collect}
@@ -18,6 +18,10 @@ settledCounters counts kept = table (λ k. counter (keptCount kept k (getD count
 
 abbrev pub settledTimers : List ℕ → ℕ → List ActionTimer
 settledTimers times kept = table (λ k. timer (keptCount kept k (getD times k 0))) 32
+
+-- numbers where they lie, with 0 at what is gone
+abbrev pub cleared : List ℕ → ℕ → List ℕ
+cleared counts gone = table (λ k. cond (has gone k) 0 (getD counts k 0)) (length counts)
 
 -- "Signals 0..31 are the cycle's inputs; signal 32+k is the activity of action k as the previous call left it"
 abbrev pub signalsOf : ℕ → ℕ → ℕ

@@ -1,26 +1,20 @@
 // Start and one cycle, each on a chart and a run by value, with the chart's tables lent to what is below.
 ghost use mathlib.Core.Path.{_≡_};
-ghost use mathlib.Core.List.{_++_};
-ghost use Prim.Native.Nat.{_≤_, min};
-ghost use lib.ListN.{length, drop};
-ghost use Rattle.acting.specs.Acting.{asked, acted};
-ghost use Rattle.cycle.specs.Outputs.{outputsOf};
-ghost use Rattle.cycle.specs.Bounds.{rests, bounded};
-ghost use Rattle.cycle.specs.Cycling.{chartOf, readyCode, startOf, movedOn, cycleTested, cycleOf, cycleOn, outputsAfter, refused};
-use crate::asking;
-use crate::choosing;
+ghost use lib.ListN.{length};
+ghost use Rattle.run.specs.Apart.{runOf};
+ghost use Rattle.cycle.specs.Cycling.{chartOf, readyAfter, startOf, cycleOf, cycleOn, outputsAfter, refused};
+use crate::calling;
 use crate::codes::FEW_OUTPUTS;
-use crate::codes::TOO_LATE;
-use crate::moving;
-use crate::outputs;
-use crate::time;
-use acting::Acted;
+use crate::stepping;
 use acting::Steps;
 use chart::Chart;
 use run::Run;
+use run::Words;
 use run::belongs;
 use run::codes::OTHER_RUN;
 use run::no_run;
+use run::run::ActionTimer;
+use run::run::StepCounter;
 
 pub struct Cycled {
     pub code: u8,
@@ -36,41 +30,6 @@ fn refused(code: u8, run: Run) -> Cycled
         taken: 0,
         run,
     }
-}
-
-// Paragraphs 4 to 6, which start and cycle share.
-fn settle<'a>(
-    outputs: &mut [i32],
-    actions: usize,
-    output: &'a [u8; 32],
-    value: &'a [i32; 32],
-    blocks: usize,
-    blockstep: &'a [u8; 256],
-    blockaction: &'a [u8; 256],
-    qualifier: &'a [u8; 256],
-    duration: &'a [u32; 256],
-    counts: &'a [u32; 64],
-    times: &'a [u32; 32],
-    steps: Steps,
-    stored: u64,
-    latched: u64,
-) -> Acted
-    requires { ⌜ 32 ≤ length (now outputs) ⌝ }
-    ensures { λ r. ⌜ (r ≡ acted (asked (min blocks 256) (rests 64 (now (blockstep .entry))) (rests 32 (now (blockaction .entry))) (now (qualifier .entry)) (now (duration .entry)) (now (counts .entry)) (now (times .entry)) steps) stored latched) × (now (outputs .exit) ≡ outputsOf (min actions 32) (rests 32 (now (output .entry))) (now (value .entry)) (r .activity) ++ drop 32 (now (outputs .entry))) ⌝ }
-{
-    let asked = asking::ask_blocks(
-        blocks,
-        blockstep,
-        blockaction,
-        qualifier,
-        duration,
-        counts,
-        times,
-        steps,
-    );
-    let acts = acting::act(asked, stored, latched);
-    outputs::write_outputs(outputs, actions, output, value, acts.activity);
-    acts
 }
 
 pub fn start(chart: Chart, clock: u32, outputs: &mut [i32]) -> Cycled
@@ -92,7 +51,7 @@ pub fn start(chart: Chart, clock: u32, outputs: &mut [i32]) -> Cycled
         left: 0,
         kept: 0,
     };
-    let acts = settle(
+    let acts = stepping::settle(
         outputs,
         chart.actions,
         &chart.output,
@@ -114,8 +73,8 @@ pub fn start(chart: Chart, clock: u32, outputs: &mut [i32]) -> Cycled
         activity: acts.activity,
         stored: acts.stored,
         latched: acts.latched,
-        counters: moving::settled_counters(&counts, 0),
-        timers: moving::settled_timers(&times, acts.latched),
+        counters: [StepCounter(0); 64],
+        timers: [ActionTimer(0); 32],
         good: 0,
         bad: 0,
     };
@@ -126,208 +85,22 @@ pub fn start(chart: Chart, clock: u32, outputs: &mut [i32]) -> Cycled
     }
 }
 
-// The tests of a cycle that its clock has no part in. A run that an accepted cycle returned passes them again with its chart, so that many cycles
-// make them once.
-pub fn ready_code<'a>(
+// The tests of a cycle that its clock has no part in, the chart's by its number.
+pub fn ready_code(
+    held: u8,
     steps: usize,
     actions: usize,
-    transitions: usize,
-    blocks: usize,
     cases: usize,
-    initial: &'a [u8; 64],
-    output: &'a [u8; 32],
-    value: &'a [i32; 32],
-    sources: &'a [u64; 64],
-    targets: &'a [u64; 64],
-    on: &'a [u64; 64],
-    off: &'a [u64; 64],
-    wait: &'a [u32; 64],
-    blockstep: &'a [u8; 256],
-    blockaction: &'a [u8; 256],
-    qualifier: &'a [u8; 256],
-    duration: &'a [u32; 256],
-    casestep: &'a [u8; 64],
-    signal: &'a [u8; 64],
-    expected: &'a [u8; 64],
-    run: Run,
+    words: Words,
+    counts: &[u32; 64],
+    times: &[u32; 32],
     lent: usize,
 ) -> u8
-    ensures { λ r. ⌜ r ≡ readyCode (chartOf steps actions transitions blocks cases (now (initial .entry)) (now (output .entry)) (now (value .entry)) (now (sources .entry)) (now (targets .entry)) (now (on .entry)) (now (off .entry)) (now (wait .entry)) (now (blockstep .entry)) (now (blockaction .entry)) (now (qualifier .entry)) (now (duration .entry)) (now (casestep .entry)) (now (signal .entry)) (now (expected .entry))) run lent ⌝ }
+    ensures { λ r. ⌜ (r ≡ readyAfter held steps actions cases (runOf words (now (counts .entry)) (now (times .entry))) lent) × (length (now (counts .entry)) ≡ 64) × (length (now (times .entry)) ≡ 32) ⌝ }
 {
-    if lent < 32 {
-        return FEW_OUTPUTS;
-    }
-    let code = chart::held_code(
-        steps,
-        actions,
-        transitions,
-        blocks,
-        cases,
-        initial,
-        output,
-        sources,
-        targets,
-        on,
-        off,
-        wait,
-        blockstep,
-        blockaction,
-        qualifier,
-        duration,
-        casestep,
-        signal,
-        expected,
-    );
-    if code != 0 {
-        return code;
-    }
-    fields::unless(belongs::belongs(run, steps, actions, cases), OTHER_RUN)
-}
-
-// Paragraphs 1 to 6.
-fn moved_on<'a>(
-    steps: usize,
-    actions: usize,
-    transitions: usize,
-    blocks: usize,
-    cases: usize,
-    initial: &'a [u8; 64],
-    output: &'a [u8; 32],
-    value: &'a [i32; 32],
-    sources: &'a [u64; 64],
-    targets: &'a [u64; 64],
-    on: &'a [u64; 64],
-    off: &'a [u64; 64],
-    wait: &'a [u32; 64],
-    blockstep: &'a [u8; 256],
-    blockaction: &'a [u8; 256],
-    qualifier: &'a [u8; 256],
-    duration: &'a [u32; 256],
-    casestep: &'a [u8; 64],
-    signal: &'a [u8; 64],
-    expected: &'a [u8; 64],
-    run: Run,
-    clock: u32,
-    inputs: u32,
-    outputs: &mut [i32],
-) -> Cycled
-    requires { ⌜ 32 ≤ length (now outputs) ⌝ }
-    ensures { λ r. ⌜ (r, now (outputs .exit)) ≡ movedOn (bounded (chartOf steps actions transitions blocks cases (now (initial .entry)) (now (output .entry)) (now (value .entry)) (now (sources .entry)) (now (targets .entry)) (now (on .entry)) (now (off .entry)) (now (wait .entry)) (now (blockstep .entry)) (now (blockaction .entry)) (now (qualifier .entry)) (now (duration .entry)) (now (casestep .entry)) (now (signal .entry)) (now (expected .entry)))) run clock inputs (now (outputs .entry)) ⌝ }
-{
-    let e = time::elapsed(run.clock, clock);
-    let counters = run.counters;
-    let timers = run.timers;
-    let counts = time::grown_counts(counters, run.active, e);
-    let times = time::grown_times(timers, run.latched, e);
-    let signals = moving::signals_of(inputs, run.activity);
-    let choice = choosing::choose(
-        transitions,
-        sources,
-        targets,
-        on,
-        off,
-        wait,
-        &counts,
-        run.active,
-        signals,
-    );
-    let moved = choosing::steps_of(run.active, choice);
-    let marks = moving::marks_of(cases, casestep, signal, expected, choice.left, signals);
-    let acts = settle(
-        outputs,
-        actions,
-        output,
-        value,
-        blocks,
-        blockstep,
-        blockaction,
-        qualifier,
-        duration,
-        &counts,
-        &times,
-        moved,
-        run.stored,
-        run.latched,
-    );
-    let next = Run {
-        clock,
-        active: moved.active,
-        activity: acts.activity,
-        stored: acts.stored,
-        latched: acts.latched,
-        counters: moving::settled_counters(&counts, moved.kept),
-        timers: moving::settled_timers(&times, acts.latched),
-        good: sets::joined(run.good, marks.good),
-        bad: sets::joined(run.bad, marks.bad),
-    };
-    Cycled {
-        code: 0,
-        taken: choice.taken,
-        run: next,
-    }
-}
-
-// A cycle that tests 15 and 11 alone, for callers that made the other tests before. What it takes of a chart that passed none, `bounded` says.
-pub fn cycle_tested<'a>(
-    steps: usize,
-    actions: usize,
-    transitions: usize,
-    blocks: usize,
-    cases: usize,
-    initial: &'a [u8; 64],
-    output: &'a [u8; 32],
-    value: &'a [i32; 32],
-    sources: &'a [u64; 64],
-    targets: &'a [u64; 64],
-    on: &'a [u64; 64],
-    off: &'a [u64; 64],
-    wait: &'a [u32; 64],
-    blockstep: &'a [u8; 256],
-    blockaction: &'a [u8; 256],
-    qualifier: &'a [u8; 256],
-    duration: &'a [u32; 256],
-    casestep: &'a [u8; 64],
-    signal: &'a [u8; 64],
-    expected: &'a [u8; 64],
-    run: Run,
-    clock: u32,
-    inputs: u32,
-    outputs: &mut [i32],
-) -> Cycled
-    ensures { λ r. ⌜ (r, now (outputs .exit)) ≡ cycleTested (chartOf steps actions transitions blocks cases (now (initial .entry)) (now (output .entry)) (now (value .entry)) (now (sources .entry)) (now (targets .entry)) (now (on .entry)) (now (off .entry)) (now (wait .entry)) (now (blockstep .entry)) (now (blockaction .entry)) (now (qualifier .entry)) (now (duration .entry)) (now (casestep .entry)) (now (signal .entry)) (now (expected .entry))) run clock inputs (now (outputs .entry)) ⌝ }
-{
-    if outputs.len() < 32 {
-        return refused(FEW_OUTPUTS, run);
-    }
-    if 60000 < time::elapsed(run.clock, clock) {
-        return refused(TOO_LATE, run);
-    }
-    moved_on(
-        steps,
-        actions,
-        transitions,
-        blocks,
-        cases,
-        initial,
-        output,
-        value,
-        sources,
-        targets,
-        on,
-        off,
-        wait,
-        blockstep,
-        blockaction,
-        qualifier,
-        duration,
-        casestep,
-        signal,
-        expected,
-        run,
-        clock,
-        inputs,
-        outputs,
-    )
+    let own = belongs::parts_belong(words, counts, times, steps, actions, cases);
+    let code = fields::or_else(held, fields::unless(own, OTHER_RUN));
+    fields::or_else(fields::unless(32 <= lent, FEW_OUTPUTS), code)
 }
 
 // A cycle on a chart's lent tables: a caller that holds the chart hands no copy of it down.
@@ -359,7 +132,14 @@ pub fn cycle_on<'a>(
 ) -> Cycled
     ensures { λ r. ⌜ (r, now (outputs .exit)) ≡ cycleOn (chartOf steps actions transitions blocks cases (now (initial .entry)) (now (output .entry)) (now (value .entry)) (now (sources .entry)) (now (targets .entry)) (now (on .entry)) (now (off .entry)) (now (wait .entry)) (now (blockstep .entry)) (now (blockaction .entry)) (now (qualifier .entry)) (now (duration .entry)) (now (casestep .entry)) (now (signal .entry)) (now (expected .entry))) run clock inputs (now (outputs .entry)) ⌝ }
 {
-    let code = ready_code(
+    let counters = run.counters;
+    let timers = run.timers;
+    let mut counts = run::counts_of(counters);
+    let mut times = run::times_of(timers);
+    let clocks = [clock];
+    let given = [inputs];
+    let mut activities = [0u64];
+    let o = calling::cycles_on(
         steps,
         actions,
         transitions,
@@ -380,38 +160,20 @@ pub fn cycle_on<'a>(
         casestep,
         signal,
         expected,
-        run,
-        outputs.len(),
-    );
-    if code != 0 {
-        return refused(code, run);
-    }
-    cycle_tested(
-        steps,
-        actions,
-        transitions,
-        blocks,
-        cases,
-        initial,
-        output,
-        value,
-        sources,
-        targets,
-        on,
-        off,
-        wait,
-        blockstep,
-        blockaction,
-        qualifier,
-        duration,
-        casestep,
-        signal,
-        expected,
-        run,
-        clock,
-        inputs,
+        run::words_of(run),
+        &mut counts,
+        &mut times,
+        &clocks,
+        &given,
+        &mut activities,
         outputs,
-    )
+    );
+    let after = o.words;
+    Cycled {
+        code: o.code,
+        taken: o.taken,
+        run: run::run_of(after, counts, times),
+    }
 }
 
 pub fn cycle(chart: Chart, run: Run, clock: u32, inputs: u32, outputs: &mut [i32]) -> Cycled

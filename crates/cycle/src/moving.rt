@@ -1,41 +1,25 @@
 // Paragraph 3 of "One cycle": counters of what moved, and the marks of the cases on left steps.
 ghost use mathlib.Core.Path.{_≡_};
-ghost use Prim.Native.Nat.{_%_, min};
+ghost use Prim.Native.Nat.{_%_, _^_, _≤_, _<_, min};
+ghost use lib.ListN.{length};
 ghost use Rattle.cycle.specs.Bounds.{rests};
-ghost use Rattle.cycle.specs.Moving.{settledCounters, settledTimers, asExpected, marksOf, signalsOf};
-use run::run::ActionTimer;
-use run::run::StepCounter;
+ghost use Rattle.cycle.specs.Moving.{cleared, asExpected, marksOf, signalsOf};
 
 pub struct Marks {
     pub good: u64,
     pub bad: u64,
 }
 
-// Only what is kept is written: the others' 0 stands from the beginning.
-pub(crate) fn settled_counters(counts: &[u32; 64], kept: u64) -> [StepCounter; 64]
-    ensures { λ r. ⌜ r ≡ settledCounters (now (counts .entry)) kept ⌝ }
+// Only what is gone is written, where it lies: the others run on.
+pub(crate) fn clear(counts: &mut [u32], gone: u64)
+    requires { ⌜ (length (now counts) ≤ 64) × (gone < 2 ^ length (now counts)) ⌝ }
+    ensures { λ _. ⌜ now (counts .exit) ≡ cleared (now (counts .entry)) gone ⌝ }
 {
-    let mut out = [StepCounter(0); 64];
-    let mut rest = kept;
+    let mut rest = gone;
     while rest != 0 {
-        let k = sets::first(rest);
-        out[k] = StepCounter(counts[k]);
+        counts[sets::first(rest)] = 0;
         rest = sets::without_first(rest);
     }
-    out
-}
-
-pub(crate) fn settled_timers(times: &[u32; 32], kept: u64) -> [ActionTimer; 32]
-    ensures { λ r. ⌜ r ≡ settledTimers (now (times .entry)) kept ⌝ }
-{
-    let mut out = [ActionTimer(0); 32];
-    let mut rest = kept % 4_294_967_296;
-    while rest != 0 {
-        let k = sets::first(rest);
-        out[k] = ActionTimer(times[k]);
-        rest = sets::without_first(rest);
-    }
-    out
 }
 
 // Signals 0 to 31 are the inputs, signal 32 + k is the activity of action k.

@@ -5,10 +5,10 @@ use mathlib.Core.List.{List}
 use Prim.Native.Nat.{ℕ, _%_, _^_, _≤_, _<_}
 use native.Mathlib.Nat.{lt-of-lt-of-le, lt-trans, mod-lt, mod-eq-of-lt}
 use lib.Dec.{eqb}
-use lib.ListN.{length, getD, set, replicate, length-set, length-replicate, getD-replicate}
+use lib.ListN.{length, getD, set, length-set}
 use lib.Pow.{pow-mono, pow-pos}
 use lib.Seq.{getD-set-same, getD-set-other}
-use borrow.Author.Tests.{eqb-true, eqb-false}
+use borrow.Author.Tests.{eqb-true, eqb-false, not-true}
 use Rattle.sets.specs.Loops.{table}
 use Rattle.sets.specs.Sets.{has, first, remove}
 use Rattle.sets.proofs.Loops.{and-true, and-yes, is-table}
@@ -41,8 +41,11 @@ module _ {P : ℕ → Type 0} {n s : ℕ} where
     pub visit-lt : k < n
     visit-lt = rw e (first-lt rest word z n (v .small))
 
+    pub visit-rest : has rest k ≡ true
+    visit-rest = rw e (first-has rest word z)
+
     pub visit-has : has s k ≡ true
-    visit-has = v .within k visit-lt (rw e (first-has rest word z))
+    visit-has = v .within k visit-lt visit-rest
 
     module _ {next : ℕ} (f : next ≡ remove rest (first rest)) where
       pub visit-less : next < rest
@@ -51,11 +54,15 @@ module _ {P : ℕ → Type 0} {n s : ℕ} where
       members : (j : ℕ) → j < n → has next j ≡ (has rest j && not (eqb j k))
       members j l = rw (f, e) (has-remove rest (first rest) j (lt-of-lt-of-le l (v .few)))
 
+      -- a member of the next rest is another one, of this rest
+      pub visit-other : (j : ℕ) → j < n → has next j ≡ true → (j ≡ k → ⊥) × (has rest j ≡ true)
+      visit-other j l t = let both = and-true (has rest j) (not (eqb j k)) (sym (members j l) ∙ t) in (eqb-false j k (not-true _ (both .1)), both .0)
+
       pub visited-turn : {Q : ℕ → Type 0} → ((j : ℕ) → (j ≡ k → ⊥) → P j → Q j) → Q k → Visited Q n s next
       visited-turn {Q} old new = record {
         few = v .few;
         small = lt-trans visit-less (v .small);
-        within = λ j l t. v .within j l (and-true (has rest j) (not (eqb j k)) (sym (members j l) ∙ t) .0);
+        within = λ j l t. v .within j l (visit-other j l t .1);
         passed = λ j l t. go j l (sym (members j l) ∙ t) (eqb j k) refl;
       }
         where
@@ -63,28 +70,33 @@ module _ {P : ℕ → Type 0} {n s : ℕ} where
           go j l t true q = rw (eqb-true j k q) new
           go j l t false q = old j (eqb-false j k q) (v .passed j l (and-yes (has rest j) ∙ rw q at t))
 
--- a list of n that is written at the members of s: each other place has what it is to have
-pub record Filled {A : Type 0} (d : A) (g : ℕ → A) (n s rest : ℕ) (l : List A) : Type 0 where
+-- a list of n numbers, as `old` at first, that is changed at the members of s: those still to be visited are as they were, and each other one is
+-- what it is to be
+pub record Changed (g : ℕ → ℕ) (old : List ℕ) (n s rest : ℕ) (l : List ℕ) : Type 0 where
   pub long : length l ≡ n
-  pub visited : Visited (λ j. getD l j d ≡ g j) n s rest
+  pub visited : Visited (λ j. getD l j 0 ≡ g j) n s rest
+  pub unseen : (j : ℕ) → j < n → has rest j ≡ true → getD l j 0 ≡ getD old j 0
 
-module _ {A : Type 0} {d : A} {g : ℕ → A} {n s : ℕ} where
-  pub filled-rest : n ≤ 64 → ((j : ℕ) → has s j ≡ false → d ≡ g j) → Filled d g n s (s % 2 ^ n) (replicate n d)
-  filled-rest a f = record { long = length-replicate n d; visited = visited-rest a (λ j l e. getD-replicate n j d d l ∙ f j e) }
+module _ {g : ℕ → ℕ} {old : List ℕ} {n s : ℕ} where
+  pub changed-rest : n ≤ 64 → length old ≡ n → ((j : ℕ) → j < n → has s j ≡ false → getD old j 0 ≡ g j) → Changed g old n s (s % 2 ^ n) old
+  changed-rest a h f = record { long = h; visited = visited-rest a f; unseen = λ j l e. refl }
 
-  pub filled-start : n ≤ 64 → s < 2 ^ n → ((j : ℕ) → has s j ≡ false → d ≡ g j) → Filled d g n s s (replicate n d)
-  filled-start a b f = rw (mod-eq-of-lt b) at (filled-rest a f)
+  pub changed-start : n ≤ 64 → s < 2 ^ n → length old ≡ n → ((j : ℕ) → j < n → has s j ≡ false → getD old j 0 ≡ g j) → Changed g old n s s old
+  changed-start a b h f = rw (mod-eq-of-lt b) at (changed-rest a h f)
 
-  pub filled-turn : {rest k next : ℕ} {l : List A} {v : A} → Filled d g n s rest l → (rest ≡ 0 → ⊥) → k ≡ first rest → next ≡ remove rest (first rest)
-      → (has s k ≡ true → v ≡ g k) → Filled d g n s next (set l k v)
-  filled-turn {rest} {k} {next} {l} {v} w z e f h =
-      let m = visit-lt (w .visited) z e in
-      record {
-        long = length-set l k v ∙ w .long;
-        visited = visited-turn (w .visited) z e f
-            (λ j q p. getD-set-other l k j v d q ∙ p)
-            (getD-set-same l k v d (rw (w .long) m) ∙ h (visit-has (w .visited) z e));
-      }
+  module _ {rest k : ℕ} {l : List ℕ} (w : Changed g old n s rest l) (z : rest ≡ 0 → ⊥) (e : k ≡ first rest) where
+    -- what is visited is as it was
+    pub change-old : getD l k 0 ≡ getD old k 0
+    change-old = w .unseen k (visit-lt (w .visited) z e) (visit-rest (w .visited) z e)
 
-  pub filled-end : {rest : ℕ} {l : List A} → Filled d g n s rest l → rest ≡ 0 → l ≡ table g n
-  filled-end {rest} {l} w z = is-table g n l d (w .long) (visited-end (w .visited) z)
+    pub changed-turn : {next v : ℕ} → next ≡ remove rest (first rest) → v ≡ g k → Changed g old n s next (set l k v)
+    changed-turn {next} {v} f h = record {
+      long = length-set l k v ∙ w .long;
+      visited = visited-turn (w .visited) z e f
+          (λ j q p. getD-set-other l k j v 0 q ∙ p)
+          (getD-set-same l k v 0 (rw (w .long) (visit-lt (w .visited) z e)) ∙ h);
+      unseen = λ j m t. let o = visit-other (w .visited) z e f j m t in getD-set-other l k j v 0 (o .0) ∙ w .unseen j m (o .1);
+    }
+
+  pub changed-end : {rest : ℕ} {l : List ℕ} → Changed g old n s rest l → rest ≡ 0 → l ≡ table g n
+  changed-end {rest} {l} w z = is-table g n l 0 (w .long) (visited-end (w .visited) z)

@@ -3,18 +3,18 @@
 -- accepted and the run there, with the outputs of the last accepted cycle, untouched if there was none. Activity words behind that number stay.
 -- Refusals: 15, chart, 12, then 18 when the three lists differ in length or exceed 4,096, all before any cycle, with 0 accepted and nothing
 -- written; then 11, at its place."
-use Prim.Native.Nat.{ℕ, suc}
+use Prim.Native.Nat.{ℕ}
 use mathlib.Core.List.{List}
 use mathlib.Core.Bool.{Bool, _&&_, cond}
 use lib.IntN.{ℤ}
-use lib.ListN.{length, getD, set}
+use lib.ListN.{length}
 use lib.Dec.{leb, eqb}
-use Rattle.sets.specs.Loops.{orElse, turns}
+use Rattle.sets.specs.Loops.{orElse}
 use Rattle.fields.specs.Fields.{unless}
 use Rattle.chart.specs.declared.chart.Chart.{Chart}
 use Rattle.run.specs.declared.run.Run.{Run}
-use Rattle.cycle.specs.declared.cycling.Cycled.{Cycled}
-use Rattle.cycle.specs.Cycling.{readyCode, cycleOn}
+use Rattle.cycle.specs.Cycling.{readyCode}
+use Rattle.cycle.specs.Calling.{Calls, singly}
 use Rattle.shift.specs.declared.shifting.Shifted.{Shifted}
 
 -- a shift's answer, its activity words and its outputs
@@ -24,21 +24,9 @@ Done = Shifted × List ℕ × List ℤ
 abbrev pub answerOf : ℕ → ℕ → Run → Shifted
 answerOf code accepted run = record { code = code; accepted = accepted; run = run }
 
--- what there is with the cycle's answer to call k and the outputs that it leaves: "the number accepted and the run there"
-abbrev pub called : ℕ → List ℕ → Cycled × List ℤ → Done
-called k words (o, out) =
-    cond (eqb (o .code) 0)
-    (answerOf 0 (suc k) (o .run), set words k (o .run .activity), out)
-    (answerOf (o .code) k (o .run), words, out)
-
--- call k, made singly, unless one before it was refused
-abbrev pub onward : Chart → List ℕ → List ℕ → ℕ → Done → Done
-onward c clocks inputs k d =
-    cond (eqb (d .0 .code) 0) (called k (d .1) (cycleOn c (d .0 .run) (getD clocks k 0) (getD inputs k 0) (d .2))) d
-
--- the first n calls, made singly
-unfoldable pub singly : Chart → Run → List ℕ → List ℕ → List ℕ → List ℤ → ℕ → Done
-singly c r clocks inputs words out n = turns (onward c clocks inputs) (answerOf 0 0 r, words, out) n
+-- "The result equals the calls made singly": what they have come to
+abbrev pub doneOf : Calls → Done
+doneOf d = (answerOf (d .code) (d .accepted) (d .run), d .activities, d .outputs)
 
 -- "18 when the three lists differ in length or exceed 4,096"
 abbrev pub listsFit : ℕ → ℕ → ℕ → Bool
@@ -51,5 +39,5 @@ shiftCode c r lent clocks inputs words = orElse (readyCode c r lent) (unless (li
 -- "all before any cycle, with 0 accepted and nothing written"
 abbrev pub shiftOf : Chart → Run → List ℕ → List ℕ → List ℕ → List ℤ → Done
 shiftOf c r clocks inputs words out =
-    cond (eqb (shiftCode c r (length out) (length clocks) (length inputs) (length words)) 0) (singly c r clocks inputs words out (length clocks))
+    cond (eqb (shiftCode c r (length out) (length clocks) (length inputs) (length words)) 0) (doneOf (singly c r clocks inputs words out (length clocks)))
     (answerOf (shiftCode c r (length out) (length clocks) (length inputs) (length words)) 0 r, words, out)

@@ -37,7 +37,7 @@ own-rest : (m n : ℕ) (l : List ℕ) → ((k : ℕ) → k < n → getD l k 0 < 
 own-rest m n l h k q = rest-at m l k ∙ mod-eq-of-lt (h k q)
 
 -- the same requests of the same actions
-asked-same : (x y : ℕ → Request) (f g : ℕ → ℕ) (n : ℕ) → ((b : ℕ) → b < n → x b ≡ y b) → ((b : ℕ) → b < n → f b ≡ g b) → askedBy x f n ≡ askedBy y g n
+pub asked-same : (x y : ℕ → Request) (f g : ℕ → ℕ) (n : ℕ) → ((b : ℕ) → b < n → x b ≡ y b) → ((b : ℕ) → b < n → f b ≡ g b) → askedBy x f n ≡ askedBy y g n
 asked-same x y f g n h e = rw (by resets, by sets, by latches, by wants, by ripens)
   where
     by : (t : Request → Bool) → named (λ b. t (x b)) f n ≡ named (λ b. t (y b)) g n

@@ -1,8 +1,9 @@
--- A cycle that tests 15 and 11 alone is the cycle, of a chart and a run that pass the other tests; and they pass them again after it.
-use Prim.Native.Nat.{ℕ, _≤_}
+-- The cycle of a chart and a run that passed the tests which its clock has no part in; and they pass them again after it.
+use Prim.Native.Nat.{ℕ, _≤_, _<_}
 use mathlib.Core.List.{List, _++_}
 use mathlib.Core.Bool.{Bool, true, false, cond}
-use mathlib.Core.Path.{_≡_, refl, sym, ap₂, _∙_}
+use mathlib.Core.Path.{_≡_, refl, _∙_}
+use native.Mathlib.Omega.{arith}
 use native.Mathlib.Omega.{arith}
 use lib.IntN.{ℤ}
 use lib.ListN.{length, drop, length-append, length-drop}
@@ -12,27 +13,28 @@ use Rattle.chart.proofs.held.Sound.{sound}
 use Rattle.run.specs.declared.run.Run.{Run}
 use Rattle.cycle.specs.Outputs.{outputsOf}
 use Rattle.cycle.specs.Bounds.{bounded}
-use Rattle.cycle.specs.Cycling.{refused, readyCode, lateCode, cycleCode, cycleOf, movedOn, cycleOn, outputsAfter, testedCode, testedOf, cycleTested}
+use Rattle.cycle.specs.Time.{elapsed}
+use Rattle.cycle.specs.Cycling.{refused, readyCode, cycleCode, cycled, cycleOf, movedOn, cycleOn, outputsAfter}
 use Rattle.cycle.specs.declared.cycling.Cycled.{Cycled}
 use Rattle.cycle.proofs.outputs.Laws.{outputs-length}
 use Rattle.cycle.proofs.bounds.Sound.{cycled-bounded, after-bounded}
 use Rattle.cycle.proofs.cycling.Kept.{cycle-belongs}
-use Rattle.cycle.proofs.cycling.Laws.{enough, goes-on, together, passed, is-ready}
+use Rattle.cycle.proofs.cycling.Laws.{goes-on, too-late, in-time, accepted-by, turned-away, together, passed, is-ready}
 
--- where its two tests find nothing it is paragraphs 1 to 6
-pub moves-on : (c : Chart) (r : Run) (clock inputs : ℕ) (out : List ℤ) → testedCode r clock (length out) ≡ 0 → movedOn (bounded c) r clock inputs out ≡ cycleTested c r clock inputs out
-unfolding cycleTested
-moves-on c r clock inputs out e = rw e
-
-pub tested-same : (c : Chart) (r : Run) (clock inputs : ℕ) (out : List ℤ) → readyCode c r (length out) ≡ 0 → cycleTested c r clock inputs out ≡ cycleOn c r clock inputs out
-unfolding cycleTested
-tested-same c r clock inputs out e =
-    let p = passed c r (length out) e in
-    let s = sound c (p .chart) in
-    let code : testedCode r clock (length out) ≡ cycleCode c r clock (length out) = sym (enough (lateCode r clock) (length out) (p .enough)) ∙ goes-on (readyCode c r (length out)) (lateCode r clock) e in
-    let o = testedOf (bounded c) r clock inputs (length out) in
+-- in time it is paragraphs 1 to 6 of what a cycle takes of the chart
+pub moves-on : (c : Chart) (r : Run) (clock inputs : ℕ) (out : List ℤ) → readyCode c r (length out) ≡ 0 → elapsed (r .clock) clock ≤ 60000
+    → movedOn (bounded c) r clock inputs out ≡ cycleOn c r clock inputs out
+moves-on c r clock inputs out e l =
+    let s = sound c (passed c r (length out) e .chart) in
+    let o = cycled (bounded c) r clock inputs in
     together c (cycleOf c r clock inputs (length out)) o out (outputsAfter (bounded c) o out)
-    (ap₂ (λ (n : ℕ) (x : Cycled). cond (eqb n 0) x (refused n r)) code (cycled-bounded c s r clock inputs)) (after-bounded c s o out)
+    (accepted-by (cycleCode c r clock (length out)) (cycled c r clock inputs) _ o (in-time _ l ∙ goes-on _ _ e) (cycled-bounded c s r clock inputs)) (after-bounded c s o out)
+
+-- too late: all stays as it is
+pub comes-late : (c : Chart) (r : Run) (clock inputs : ℕ) (out : List ℤ) → readyCode c r (length out) ≡ 0 → 60000 < elapsed (r .clock) clock
+    → _≡_ {A = Cycled × List ℤ} (refused 11 r, out) (cycleOn c r clock inputs out)
+comes-late c r clock inputs out e l =
+    turned-away c (cycleCode c r clock (length out)) 11 (cycled c r clock inputs) (refused 11 r) r out (too-late _ l ∙ goes-on _ _ e) (λ z. omega arith) refl
 
 pub ready-kept : (c : Chart) (r : Run) (clock inputs lent : ℕ) → readyCode c r lent ≡ 0 → cycleOf c r clock inputs lent .code ≡ 0
     → readyCode c (cycleOf c r clock inputs lent .run) lent ≡ 0

@@ -1,12 +1,11 @@
--- The tests that the clock has no part in, then the cycle that has made them.
-use mathlib.Core.Path.{sym, _∙_}
-use lib.ListN.{length}
+-- One cycle where the run lies, taken apart before and put together after.
+use mathlib.Core.Path.{refl}
 use denote.Ref.{now}
-use borrow.Author.Needs.{needs}
 use Rattle.chart.specs.declared.chart.Chart.{Chart}
-use Rattle.cycle.specs.Cycling.{chartOf, cycleCode, cycled}
-use Rattle.cycle.proofs.cycling.Laws.{stops, turned-away}
-use Rattle.cycle.proofs.cycling.Tested.{tested-same}
+use Rattle.run.proofs.apart.Laws.{put-together}
+use Rattle.cycle.specs.Cycling.{chartOf}
+use Rattle.cycle.proofs.calling.Laws.{one-cycle}
+use borrow.Author.Needs.{needs}
 use Rattle.cycle.proofs.cycling.cycle_on.Statement.{statement}
 use Rattle.cycle.proofs.cycling.cycle_on.Tie as tie
 
@@ -15,34 +14,55 @@ chart s =
     let a = s .args in
     chartOf (a .steps) (a .actions) (a .transitions) (a .blocks) (a .cases) (now (a .initial)) (now (a .output)) (now (a .value)) (now (a .sources)) (now (a .targets)) (now (a .on)) (now (a .off)) (now (a .wait)) (now (a .blockstep)) (now (a .blockaction)) (now (a .qualifier)) (now (a .duration)) (now (a .casestep)) (now (a .signal)) (now (a .expected))
 
-ready-code-requires : tie.Need-ready-code-requires
-ready-code-requires c κs = search needs
+counts-of-requires : tie.Need-counts-of-requires
+counts-of-requires c κs = search needs
 
-refused-requires : tie.Need-refused-requires
-refused-requires c κs = search needs
+times-of-requires : tie.Need-times-of-requires
+times-of-requires c κs = search needs
 
-returns : tie.Need-returns
-returns c =
-    let s = c .before .before .before in
-    let a = s .args in
-    let e = c .before .before .ready-code .ensures in
-    let z = c .before .if1 .taken in
-    turned-away (chart s) (cycleCode (chart s) (a .run) (a .clock) (length (now (a .outputs)))) _ (cycled (chart s) (a .run) (a .clock) (a .inputs)) (c .refused .result) (a .run) (now (a .outputs))
-    (e ∙ stops _ _ (λ q. z (e ∙ q))) z (c .refused .ensures)
+words-of-requires : tie.Need-words-of-requires
+words-of-requires c κs = search needs
 
-cycle-tested-requires : tie.Need-cycle-tested-requires
-cycle-tested-requires c κs = search needs
+slice-aggregate-cycles-on : tie.Need-slice-aggregate-cycles-on
+slice-aggregate-cycles-on c = search needs
+
+slice-aggregate-cycles-on-2 : tie.Need-slice-aggregate-cycles-on-2
+slice-aggregate-cycles-on-2 c = search needs
+
+slice-aggregate-cycles-on-3 : tie.Need-slice-aggregate-cycles-on-3
+slice-aggregate-cycles-on-3 c = search needs
+
+cycles-on-requires : tie.Need-cycles-on-requires
+cycles-on-requires c κs = search needs
+
+run-of-requires : tie.Need-run-of-requires
+run-of-requires c κs = search needs
 
 same-length : tie.Need-same-length
 same-length c = search needs
 
-returns-2 : tie.Need-returns-2
-returns-2 c =
-    let tested = c .before .before .before .before in
-    let s = tested .before in
+returns : tie.Need-returns
+returns c =
+    let calling = c .before .before .before .before in
+    let words = calling .before .before .before .before .before .before .before in
+    let times = words .before in
+    let counts = times .before in
+    let s = counts .before .before .before in
     let a = s .args in
-    c .before .cycle-tested .ensures
-    ∙ tested-same (chart s) (a .run) (a .clock) (a .inputs) (now (a .outputs)) (sym (tested .ready-code .ensures) ∙ c .before .before .before .if1 .left)
+    one-cycle (chart s) (a .run) (a .clock) (a .inputs) (now (a .outputs)) (words .words-of .result) (counts .counts-of .result) (times .times-of .result) _ _ _
+    (put-together (a .run) _ _ _ (words .words-of .ensures) (counts .counts-of .ensures) (times .times-of .ensures)) refl (calling .cycles-on .ensures) (c .run-of .ensures)
 
 pub cycle-on-spec : {M : Type 1} → statement M
-cycle-on-spec = tie.close (tie.spec ready-code-requires refused-requires returns cycle-tested-requires same-length returns-2)
+cycle-on-spec =
+    tie.close
+    (tie.spec
+    counts-of-requires
+    times-of-requires
+    words-of-requires
+    slice-aggregate-cycles-on
+    slice-aggregate-cycles-on-2
+    slice-aggregate-cycles-on-3
+    cycles-on-requires
+    run-of-requires
+    same-length
+    returns)

@@ -9,6 +9,7 @@ use Rattle.run.specs.Run.{noRun}
 use Rattle.cycle.specs.Cycling.{refused, startCode, started}
 use Rattle.cycle.proofs.cycling.Laws.{few, enough, refused-by, accepted-by, untouched, started-as}
 use Rattle.cycle.proofs.bounds.Sound.{acted-bounded, outputs-bounded}
+use Rattle.cycle.proofs.stepping.Laws.{blank-acted, blank-counters, blank-timers}
 use borrow.Author.Needs.{needs}
 use Rattle.cycle.proofs.cycling.start.Statement.{statement}
 use Rattle.cycle.proofs.cycling.start.Tie as tie
@@ -65,25 +66,19 @@ initial-of-requires c κs = search needs
 settle-requires : tie.Need-settle-requires
 settle-requires c κs = search needs
 
-settled-counters-requires : tie.Need-settled-counters-requires
-settled-counters-requires c κs = search needs
-
-settled-timers-requires : tie.Need-settled-timers-requires
-settled-timers-requires c κs = search needs
-
 same-length : tie.Need-same-length
 same-length c = search needs
 
 returns-3 : tie.Need-returns-3
 returns-3 c =
-    let acting = c .before .before .before .before .before in
+    let acting = c .before in
     let initial = acting .before .before .before .before .before .before .before .before .before .before .before in
     let held = initial .before .before .before in
     let a = call held .args in
     let s = acting .settle .ensures in (
       accepted-by _ (started (a .t1) (a .clock)) (refused (startCode (a .t1) (length (now (a .outputs)))) noRun) _
           (sym (chart-zero held) ∙ enough _ _ (lent held .if1 .left))
-          (started-as (a .t1) (a .clock) _ (acting .settle .result) _ _ (initial .initial-of .ensures) (s .0 ∙ acted-bounded (a .t1) (chart-sound held) _ _ _ 0 0) (c .before .before .settled-counters .ensures) (c .settled-timers .ensures)),
+          (started-as (a .t1) (a .clock) _ (acting .settle .result) _ _ (initial .initial-of .ensures) (s .0 ∙ blank-acted (a .t1) _ ∙ acted-bounded (a .t1) (chart-sound held) _ _ _ 0 0) blank-counters (blank-timers (acting .settle .result .latched))),
       rw (outputs-bounded (a .t1) (chart-sound held) (acting .settle .result .activity)) at (s .1),
     )
 
@@ -100,7 +95,5 @@ start-spec =
     returns-2
     initial-of-requires
     settle-requires
-    settled-counters-requires
-    settled-timers-requires
     same-length
     returns-3)

@@ -1,54 +1,60 @@
--- The tests, then the single calls.
-use mathlib.Core.Path.{sym, _∙_}
+-- The tests; then the cycles where the run lies, taken apart before and put together after.
+use mathlib.Core.Path.{_≡_, sym, _∙_}
 use denote.Ref.{now}
-use lib.ListN.{length}
-use borrow.Author.Needs.{needs}
 use borrow.Author.Tests.{not-true, not-false}
-use Rattle.shift.proofs.shifting.Laws.{not-ready, uneven, all-made, fit}
+use Rattle.run.specs.Apart.{runOf}
+use Rattle.run.proofs.apart.Laws.{put-together}
+use Rattle.shift.proofs.shifting.Laws.{uneven, all-called}
+use borrow.Author.Needs.{needs}
 use Rattle.shift.proofs.shifting.shift.Statement.{statement}
 use Rattle.shift.proofs.shifting.shift.Tie as tie
 
-ready-code-requires : tie.Need-ready-code-requires
-ready-code-requires c κs = search needs
+-- where the run is taken apart
+abbrev called : tie.After-lists-fit → tie.Start
+called c = c .before .before .before .before .before .before .before .before .before
 
-refused-requires : tie.Need-refused-requires
-refused-requires c κs = search needs
+-- the run is its parts
+parts : (c : tie.After-lists-fit) → called c .args .run ≡ runOf (c .before .words-of .result) (c .before .before .before .counts-of .result) (c .before .before .times-of .result)
+parts c = put-together (called c .args .run) _ _ _ (c .before .words-of .ensures) (c .before .before .before .counts-of .ensures) (c .before .before .times-of .ensures)
 
--- where the tests of the chart and the run, and then of the lists, are done
-abbrev tested : tie.After-ready-code → tie.Start
-tested c = c .before .before .before .before .before .before .before .before .before .before .before .before .before .before .before .before .before .before .before .before
+counts-of-requires : tie.Need-counts-of-requires
+counts-of-requires c κs = search needs
 
-abbrev listed : tie.After-cycles-arg17 → tie.Else2
-listed c = c .before .before .before .before .before .before .before .before .before .before .before .before .before .before .before .before .before .before
+times-of-requires : tie.Need-times-of-requires
+times-of-requires c κs = search needs
 
-returns : tie.Need-returns
-returns c =
-    let code = c .before .before in
-    let a = tested code .args in
-    not-ready (a .t1) (a .run) (now (a .clocks)) (now (a .inputs)) (now (a .activities)) (now (a .outputs)) _ (c .refused .result) (code .ready-code .ensures) (c .before .if1 .taken) (c .refused .ensures)
+words-of-requires : tie.Need-words-of-requires
+words-of-requires c κs = search needs
 
 lists-fit-requires : tie.Need-lists-fit-requires
 lists-fit-requires c κs = search needs
 
-refused-requires-2 : tie.Need-refused-requires-2
-refused-requires-2 c κs = search needs
+chart-code-requires : tie.Need-chart-code-requires
+chart-code-requires c κs = search needs
 
-returns-2 : tie.Need-returns-2
-returns-2 c =
-    let lists = c .before .before in
-    let code = lists .before .before in
-    let a = tested code .args in
-    uneven (a .t1) (a .run) (now (a .clocks)) (now (a .inputs)) (now (a .activities)) (now (a .outputs)) (c .refused2 .result)
-    (sym (code .ready-code .ensures) ∙ lists .before .if1 .left) (sym (lists .lists-fit .ensures) ∙ not-true _ (c .before .if2 .taken)) (c .refused2 .ensures)
+ready-code-requires : tie.Need-ready-code-requires
+ready-code-requires c κs = search needs
 
-cycles-requires : tie.Need-cycles-requires
-cycles-requires c κs =
-    let done = listed c in
-    let lists = done .before in
-    let code = lists .before .before in
-    let a = tested code .args in
-    let f = fit (length (now (a .clocks))) (length (now (a .inputs))) (length (now (a .activities))) (sym (lists .lists-fit .ensures) ∙ not-false _ (done .if2 .left)) in
-    (sym (code .ready-code .ensures) ∙ lists .before .if1 .left, f .0, f .1, f .2)
+or-else-requires : tie.Need-or-else-requires
+or-else-requires c κs = search needs
+
+refused-requires : tie.Need-refused-requires
+refused-requires c κs = search needs
+
+returns : tie.Need-returns
+returns c =
+    let ready = c .before .before in
+    let listed = ready .before .before .before .before .before in
+    let a = called listed .args in
+    uneven (a .t1) (a .run) (now (a .clocks)) (now (a .inputs)) (now (a .activities)) (now (a .outputs)) _ _ _ (listed .before .words-of .result) (listed .before .before .before .counts-of .result) (listed .before .before .times-of .result) (c .refused .result)
+    (parts listed) (ready .before .before .before .chart-code .ensures) (ready .ready-code .ensures .0) (c .before .or-else .ensures)
+    (sym (listed .lists-fit .ensures) ∙ not-true _ (ready .before .before .before .before .if1 .taken)) (c .refused .ensures)
+
+cycles-on-requires : tie.Need-cycles-on-requires
+cycles-on-requires c κs = search needs
+
+run-of-requires : tie.Need-run-of-requires
+run-of-requires c κs = search needs
 
 same-length : tie.Need-same-length
 same-length c = search needs
@@ -56,26 +62,30 @@ same-length c = search needs
 same-length-2 : tie.Need-same-length-2
 same-length-2 c = search needs
 
-returns-3 : tie.Need-returns-3
-returns-3 c =
-    let done = listed (c .before .before .before .before) in
-    let lists = done .before in
-    let code = lists .before .before in
-    let a = tested code .args in
-    all-made (a .t1) (a .run) (now (a .clocks)) (now (a .inputs)) (now (a .activities)) (now (a .outputs)) _
-    (sym (code .ready-code .ensures) ∙ lists .before .if1 .left) (sym (lists .lists-fit .ensures) ∙ not-false _ (done .if2 .left)) (c .before .before .before .cycles .ensures)
+returns-2 : tie.Need-returns-2
+returns-2 c =
+    let calling = c .before .before .before .before .before in
+    let fit = calling .before .before .before .before .before .before .before .before .before .before .before .before .before .before .before .before .before .before .before .before .before in
+    let listed = fit .before in
+    let a = called listed .args in
+    all-called (a .t1) (a .run) (now (a .clocks)) (now (a .inputs)) (now (a .activities)) (now (a .outputs)) (listed .before .words-of .result) (listed .before .before .before .counts-of .result) (listed .before .before .times-of .result) _ _
+    (parts listed) (sym (listed .lists-fit .ensures) ∙ not-false _ (fit .if1 .left)) (calling .cycles-on .ensures) (c .run-of .ensures)
 
 pub shift-spec : {M : Type 1} → statement M
 shift-spec =
     tie.close
     (tie.spec
+    counts-of-requires
+    times-of-requires
+    words-of-requires
+    lists-fit-requires
+    chart-code-requires
     ready-code-requires
+    or-else-requires
     refused-requires
     returns
-    lists-fit-requires
-    refused-requires-2
-    returns-2
-    cycles-requires
+    cycles-on-requires
+    run-of-requires
     same-length
     same-length-2
-    returns-3)
+    returns-2)

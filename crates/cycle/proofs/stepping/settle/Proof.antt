@@ -1,7 +1,7 @@
 -- By its callees' statements.
 use borrow.Author.Needs.{needs}
-use Rattle.cycle.proofs.cycling.settle.Statement.{statement}
-use Rattle.cycle.proofs.cycling.settle.Tie as tie
+use Rattle.cycle.proofs.stepping.settle.Statement.{statement}
+use Rattle.cycle.proofs.stepping.settle.Tie as tie
 
 ask-blocks-requires : tie.Need-ask-blocks-requires
 ask-blocks-requires c κs = search needs

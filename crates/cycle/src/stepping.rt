@@ -1,0 +1,150 @@
+// One cycle where the run lies: its words go in and out by value, its counters and timers are lent and changed in place.
+ghost use mathlib.Core.Bool.{true};
+ghost use mathlib.Core.Path.{_≡_};
+ghost use mathlib.Core.List.{_++_};
+ghost use Prim.Native.Nat.{_≤_, min};
+ghost use lib.ListN.{length, drop};
+ghost use Rattle.acting.specs.Acting.{asked, acted};
+ghost use Rattle.run.specs.Apart.{countersOf, timersOf, runOf};
+ghost use Rattle.run.specs.Belongs.{countersFit, timersFit};
+ghost use Rattle.cycle.specs.Outputs.{outputsOf};
+ghost use Rattle.cycle.specs.Bounds.{rests, bounded};
+ghost use Rattle.cycle.specs.Cycling.{chartOf, movedOn};
+ghost use Rattle.cycle.specs.Stepping.{allKept, cycledTo};
+use crate::asking;
+use crate::choosing;
+use crate::moving;
+use crate::outputs;
+use crate::time;
+use acting::Acted;
+use acting::Steps;
+use run::Words;
+
+pub struct Stepped {
+    pub taken: u64,
+    pub words: Words,
+}
+
+// Paragraphs 4 to 6, which start and cycle share. The counters are those of the steps as they are now: all of them count.
+pub(crate) fn settle<'a>(
+    outputs: &mut [i32],
+    actions: usize,
+    output: &'a [u8; 32],
+    value: &'a [i32; 32],
+    blocks: usize,
+    blockstep: &'a [u8; 256],
+    blockaction: &'a [u8; 256],
+    qualifier: &'a [u8; 256],
+    duration: &'a [u32; 256],
+    counts: &'a [u32; 64],
+    times: &'a [u32; 32],
+    steps: Steps,
+    stored: u64,
+    latched: u64,
+) -> Acted
+    requires { ⌜ 32 ≤ length (now outputs) ⌝ }
+    ensures { λ r. ⌜ (r ≡ acted (asked (min blocks 256) (rests 64 (now (blockstep .entry))) (rests 32 (now (blockaction .entry))) (now (qualifier .entry)) (now (duration .entry)) (now (counts .entry)) (now (times .entry)) (allKept steps)) stored latched) × (now (outputs .exit) ≡ outputsOf (min actions 32) (rests 32 (now (output .entry))) (now (value .entry)) (r .activity) ++ drop 32 (now (outputs .entry))) ⌝ }
+{
+    let now = Steps {
+        active: steps.active,
+        entered: steps.entered,
+        left: steps.left,
+        kept: u64::MAX,
+    };
+    let asked = asking::ask_blocks(
+        blocks,
+        blockstep,
+        blockaction,
+        qualifier,
+        duration,
+        counts,
+        times,
+        now,
+    );
+    let acts = acting::act(asked, stored, latched);
+    outputs::write_outputs(outputs, actions, output, value, acts.activity);
+    acts
+}
+
+// Paragraphs 1 to 6, of a run whose counters and timers are 0 where they do not run. What is taken of a chart that passed no test, `bounded` says.
+pub(crate) fn step<'a>(
+    steps: usize,
+    actions: usize,
+    transitions: usize,
+    blocks: usize,
+    cases: usize,
+    initial: &'a [u8; 64],
+    output: &'a [u8; 32],
+    value: &'a [i32; 32],
+    sources: &'a [u64; 64],
+    targets: &'a [u64; 64],
+    on: &'a [u64; 64],
+    off: &'a [u64; 64],
+    wait: &'a [u32; 64],
+    blockstep: &'a [u8; 256],
+    blockaction: &'a [u8; 256],
+    qualifier: &'a [u8; 256],
+    duration: &'a [u32; 256],
+    casestep: &'a [u8; 64],
+    signal: &'a [u8; 64],
+    expected: &'a [u8; 64],
+    words: Words,
+    counts: &mut [u32; 64],
+    times: &mut [u32; 32],
+    clock: u32,
+    inputs: u32,
+    outputs: &mut [i32],
+) -> Stepped
+    requires { ⌜ (32 ≤ length (now outputs)) × (countersFit (countersOf (now counts)) (words .active) ≡ true) × (timersFit (timersOf (now times)) (words .latched) ≡ true) ⌝ }
+    ensures { λ r. ⌜ ((cycledTo r (runOf (r .words) (now (counts .exit)) (now (times .exit))), now (outputs .exit)) ≡ movedOn (bounded (chartOf steps actions transitions blocks cases (now (initial .entry)) (now (output .entry)) (now (value .entry)) (now (sources .entry)) (now (targets .entry)) (now (on .entry)) (now (off .entry)) (now (wait .entry)) (now (blockstep .entry)) (now (blockaction .entry)) (now (qualifier .entry)) (now (duration .entry)) (now (casestep .entry)) (now (signal .entry)) (now (expected .entry)))) (runOf words (now (counts .entry)) (now (times .entry))) clock inputs (now (outputs .entry))) × (length (now (counts .exit)) ≡ 64) × (length (now (times .exit)) ≡ 32) ⌝ }
+{
+    let e = time::elapsed(words.clock, clock);
+    time::grow_counts(counts, words.active, e);
+    time::grow_times(times, words.latched, e);
+    let signals = moving::signals_of(inputs, words.activity);
+    let choice = choosing::choose(
+        transitions,
+        sources,
+        targets,
+        on,
+        off,
+        wait,
+        counts,
+        words.active,
+        signals,
+    );
+    let moved = choosing::steps_of(words.active, choice);
+    moving::clear(counts, sets::without(words.active, moved.kept));
+    let marks = moving::marks_of(cases, casestep, signal, expected, choice.left, signals);
+    let acts = settle(
+        outputs,
+        actions,
+        output,
+        value,
+        blocks,
+        blockstep,
+        blockaction,
+        qualifier,
+        duration,
+        counts,
+        times,
+        moved,
+        words.stored,
+        words.latched,
+    );
+    let freed = sets::without(words.latched, acts.latched) % 4_294_967_296;
+    moving::clear(times, freed);
+    let next = Words {
+        clock,
+        active: moved.active,
+        activity: acts.activity,
+        stored: acts.stored,
+        latched: acts.latched,
+        good: sets::joined(words.good, marks.good),
+        bad: sets::joined(words.bad, marks.bad),
+    };
+    Stepped {
+        taken: choice.taken,
+        words: next,
+    }
+}
