@@ -188,29 +188,37 @@ unsigned read_chart(const uint8_t *bytes, size_t size, struct chart *chart, size
 	return code;
 }
 
-/* What can be made of vectors in columns, and only then what goes by the qualifier; `twice` tells of two timed blocks for one action. */
+/* A bit for each of eight bytes that are 0 or 1, the first the least. */
+static inline uint64_t bits_of(const uint8_t *flags)
+{
+	return u64_at(flags) * UINT64_C(0x0102040810204080) >> 56;
+}
+
+/* Column by column, which the compiler makes vectors of; then only the timed blocks one by one. `twice` tells of two for one action. */
 static unsigned blocks_bad(const struct chart *c, uint32_t *twice)
 {
-	uint8_t steps = (uint8_t)c->steps, actions = (uint8_t)c->actions;
+	uint8_t steps = (uint8_t)c->steps, actions = (uint8_t)c->actions, timed[BLOCKS];
 	uint32_t bad = 0, seen = 0;
 	size_t n = c->blocks;
 	*twice = 0;
 	for (size_t i = 0; i < n; i++)
 		bad |= (c->blockstep[i] >= steps) | (c->blockaction[i] >= actions) | (c->qualifier[i] > P0);
 	for (size_t i = 0; i < n; i++)
-		bad |= c->duration[i] > LONGEST;
+		timed[i] = (c->qualifier[i] >= L) & (c->qualifier[i] <= SL) & (c->qualifier[i] != P);
+	for (size_t i = 0; i < n; i++)
+		bad |= (c->duration[i] > LONGEST) | (c->duration[i] & (timed[i] - UINT32_C(1)));
 	if (bad)
 		return 1;
-	for (size_t i = 0; i < n; i++) {
-		if (TIMED >> c->qualifier[i] & 1) {
-			uint32_t bit = UINT32_C(1) << c->blockaction[i];
+	for (size_t i = n; i % 8; i++)
+		timed[i] = 0;
+	for (size_t i = 0; i < n; i += 8) {
+		for (uint64_t rest = bits_of(timed + i); rest; rest &= rest - 1) {
+			uint32_t bit = UINT32_C(1) << c->blockaction[i + (size_t)__builtin_ctzll(rest)];
 			*twice |= seen & bit;
 			seen |= bit;
-		} else {
-			bad |= c->duration[i];
 		}
 	}
-	return bad != 0;
+	return 0;
 }
 
 unsigned chart_code(const struct chart *c)
@@ -301,15 +309,18 @@ unsigned write_chart(const struct chart *c, uint8_t *bytes, size_t lent, size_t 
 	return ACCEPTED;
 }
 
-/* Counts are 0 outside the set and at most a day. */
-static unsigned counts_bad(const uint32_t *counts, size_t n, uint64_t set)
+/* Counts are 0 outside the set and at most a day. A byte for each, which the compiler makes of vectors, then a bit of each byte. */
+static inline unsigned counts_bad(const uint32_t *counts, size_t n, uint64_t set)
 {
 	unsigned bad = 0;
 	uint64_t some = 0;
+	uint8_t flags[64];
 	for (size_t k = 0; k < n; k++)
 		bad |= counts[k] > LONGEST;
 	for (size_t k = 0; k < n; k++)
-		some |= (uint64_t)(counts[k] != 0) << k;
+		flags[k] = counts[k] != 0;
+	for (size_t k = 0; k < n; k += 8)
+		some |= bits_of(flags + k) << k;
 	return bad | ((some & ~set) != 0);
 }
 
