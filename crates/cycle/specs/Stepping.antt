@@ -1,5 +1,4 @@
 -- One cycle where the run lies: its words, and its counters and timers as plain numbers.
-use Prim.Native.Nat.{ℕ}
 use Rattle.acting.specs.declared.Steps.{Steps}
 use Rattle.run.specs.declared.run.Run.{Run}
 use Rattle.cycle.specs.declared.cycling.Cycled.{Cycled}

@@ -70,7 +70,7 @@ every : (k n : ℕ) → k < 64 → n ≡ keptCount 18446744073709551615 k n
 every k n m = rw (has-not 0 k (omega arith) m ∙ ap not (has-zero k))
 
 -- the same requests, if what a step's counter comes to is the same
-pub asked-now : (n : ℕ) (step action qualifier duration counts now times : List ℕ) (steps : Steps)
+asked-now : (n : ℕ) (step action qualifier duration counts now times : List ℕ) (steps : Steps)
     → ((b : ℕ) → b < n → getD step b 0 < 64)
     → ((k : ℕ) → k < 64 → getD now k 0 ≡ keptCount (steps .kept) k (getD counts k 0))
     → asked n step action qualifier duration now times (allKept steps) ≡ asked n step action qualifier duration counts times steps

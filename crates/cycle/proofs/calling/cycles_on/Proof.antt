@@ -12,7 +12,6 @@ use Rattle.run.specs.declared.run.Run.{Run}
 use Rattle.run.proofs.belongs.Laws.{own}
 use Rattle.cycle.specs.Cycling.{chartOf, refused, readyCode}
 use Rattle.cycle.specs.Calling.{singly}
-use Rattle.cycle.specs.Stepping.{cycledTo}
 use Rattle.cycle.proofs.cycling.Laws.{passed}
 use Rattle.cycle.proofs.cycling.Tested.{moves-on, comes-late}
 use Rattle.cycle.proofs.calling.Laws.{madeOf, none-called, one-accepted, one-refused, not-ready, all-made, in-parts}

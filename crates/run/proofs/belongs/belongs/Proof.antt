@@ -2,7 +2,6 @@
 use mathlib.Core.Path.{_∙_, ap, sym}
 use borrow.Author.Needs.{needs}
 use Rattle.run.specs.Belongs.{belongsTo}
-use Rattle.run.specs.declared.run.Run.{Run}
 use Rattle.run.proofs.apart.Laws.{put-together}
 use Rattle.run.proofs.belongs.belongs.Statement.{statement}
 use Rattle.run.proofs.belongs.belongs.Tie as tie
