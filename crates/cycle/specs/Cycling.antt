@@ -17,7 +17,7 @@ use Rattle.acting.specs.Acting.{asked, acted}
 use Rattle.acting.specs.declared.Steps.{Steps}
 use Rattle.acting.specs.declared.Acted.{Acted}
 use Rattle.run.specs.Run.{noRun}
-use Rattle.run.specs.Belongs.{belongsTo, belongs}
+use Rattle.run.specs.Belongs.{belongsTo}
 use Rattle.run.specs.declared.run.Run.{Run}
 use Rattle.cycle.specs.Time.{elapsed, grownCounts, grownTimes}
 use Rattle.cycle.specs.Choosing.{stepsOf}
@@ -58,13 +58,12 @@ chartOf steps actions transitions blocks cases initial output value sources targ
 abbrev pub startCode : Chart → ℕ → ℕ
 startCode c lent = orElse (unless (leb 32 lent) 15) (chartCode c)
 
--- the tests of a cycle that its clock has no part in: 15, chart, 12
-abbrev pub readyCode : Chart → Run → ℕ → ℕ
-readyCode c r lent = orElse (unless (leb 32 lent) 15) (orElse (chartCode c) (unless (belongs c r) 12))
-
--- the same by the chart's number
+-- the tests of a cycle that its clock has no part in, the chart's by its number: 15, chart, 12
 abbrev pub readyAfter : ℕ → ℕ → ℕ → ℕ → Run → ℕ → ℕ
 readyAfter held steps actions cases r lent = orElse (unless (leb 32 lent) 15) (orElse held (unless (belongsTo steps actions cases r) 12))
+
+abbrev pub readyCode : Chart → Run → ℕ → ℕ
+readyCode c r lent = readyAfter (chartCode c) (c .steps) (c .actions) (c .cases) r lent
 
 -- "11 elapsed time above 60,000 ms"
 abbrev pub lateCode : Run → ℕ → ℕ

@@ -185,6 +185,13 @@ first-zero f (suc n) e i l =
     let both = else-zero (firstCode f n) (f n) e in
     ⊎-elim (λ q. ap f q ∙ both .1) (λ m. first-zero f n (both .0) i m) (eq-or-lt-of-le (le-of-suc-le-suc l))
 
+pub zero-first : (f : ℕ → ℕ) (n : ℕ) → all (λ i. eqb (f i) 0) n ≡ true → firstCode f n ≡ 0
+unfolding firstCode all
+zero-first f zero e = refl
+zero-first f (suc n) e =
+    let both = and-true (all (λ i. eqb (f i) 0) n) (eqb (f n) 0) e in
+    rw (zero-first f n (both .0)) (eqb-true (f n) 0 (both .1))
+
 pub first-same : (f g : ℕ → ℕ) (n : ℕ) → ((i : ℕ) → i < n → f i ≡ g i) → firstCode f n ≡ firstCode g n
 unfolding firstCode
 first-same f g zero h = refl

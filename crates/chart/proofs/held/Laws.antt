@@ -43,15 +43,6 @@ pub columns-code : (n s a : ℕ) (bs ba q d : List ℕ) → unless (all (blockNa
 unfolding blocksCode
 columns-code n s a bs ba q d = test-code (blockFitsAt s a bs ba q d) n (all-both (blockNamesAt s a bs ba q) (durationFitsAt q d) n)
 
--- ---- transitions that pass have no number
-
-pub no-code : (f : ℕ → ℕ) (n : ℕ) → all (λ i. eqb (f i) 0) n ≡ true → firstCode f n ≡ 0
-unfolding firstCode all
-no-code f zero e = refl
-no-code f (suc n) e =
-    let both = and-true (all (λ i. eqb (f i) 0) n) (eqb (f n) 0) e in
-    rw (no-code f n (both .0)) (eqb-true (f n) 0 (both .1))
-
 -- ---- the counts within their limits
 
 pub record Limits (s a t b c : ℕ) : Type 0 where

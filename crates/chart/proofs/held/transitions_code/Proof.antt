@@ -6,9 +6,8 @@ use native.Mathlib.Nat.{le-antisymm}
 use native.Mathlib.Omega.{arith}
 use borrow.Author.Needs.{needs}
 use Rattle.sets.specs.Loops.{firstCode}
-use Rattle.sets.proofs.Loops.{first-start, first-turn, first-found}
+use Rattle.sets.proofs.Loops.{first-start, first-turn, first-found, zero-first}
 use Rattle.chart.specs.Held.{transitionCodeAt, transitionsCode}
-use Rattle.chart.proofs.held.Laws.{no-code}
 use Rattle.chart.proofs.held.transitions_code.Statement.{statement}
 use Rattle.chart.proofs.held.transitions_code.Tie as tie
 
@@ -25,7 +24,7 @@ returns : tie.Need-returns Inv-loop μ-loop
 unfolding transitionsCode
 returns c =
     let a = c .before .before .args in
-    sym (no-code (transitionCodeAt (a .steps) (a .actions) (now (a .sources)) (now (a .targets)) (now (a .on)) (now (a .off)) (now (a .wait))) (a .n) (sym (c .before .transitions-pass .ensures) ∙ c .if1 .taken))
+    sym (zero-first (transitionCodeAt (a .steps) (a .actions) (now (a .sources)) (now (a .targets)) (now (a .on)) (now (a .off)) (now (a .wait))) (a .n) (sym (c .before .transitions-pass .ensures) ∙ c .if1 .taken))
 
 loop-holds : tie.Need-loop-holds Inv-loop μ-loop
 loop-holds c = (first-start _, omega arith)
