@@ -1,8 +1,34 @@
--- The all-zero chart, and a chart with one more record.
+-- The chart of lent tables, the all-zero chart, and a chart with one more record.
 use Prim.Native.Nat.{ℕ, _+_}
+use mathlib.Core.List.{List}
 use lib.IntN.{ℤ, pos}
 use lib.ListN.{set, replicate}
 use Rattle.chart.specs.declared.chart.Chart.{Chart}
+
+-- the chart of lent tables
+abbrev pub chartOf : ℕ → ℕ → ℕ → ℕ → ℕ → List ℕ → List ℕ → List ℤ → List ℕ → List ℕ → List ℕ → List ℕ → List ℕ → List ℕ → List ℕ → List ℕ → List ℕ → List ℕ → List ℕ → List ℕ → Chart
+chartOf steps actions transitions blocks cases initial output value sources targets on off wait blockstep blockaction qualifier duration casestep signal expected = record {
+  steps = steps;
+  actions = actions;
+  transitions = transitions;
+  blocks = blocks;
+  cases = cases;
+  initial = initial;
+  output = output;
+  value = value;
+  sources = sources;
+  targets = targets;
+  on = on;
+  off = off;
+  wait = wait;
+  blockstep = blockstep;
+  blockaction = blockaction;
+  qualifier = qualifier;
+  duration = duration;
+  casestep = casestep;
+  signal = signal;
+  expected = expected;
+}
 
 abbrev pub noChart : Chart
 noChart = record {

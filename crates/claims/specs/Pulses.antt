@@ -17,7 +17,8 @@ use Rattle.acting.specs.Acting.{requestAt, requestOf, askedBy, asked}
 use Rattle.acting.specs.declared.Steps.{Steps}
 use Rattle.acting.specs.declared.Request.{Request}
 use Rattle.run.specs.declared.run.Run.{Run}
-use Rattle.cycle.specs.Cycling.{chartOf, startOf, cycleOf, outputsAfter}
+use Rattle.chart.specs.Chart.{chartOf}
+use Rattle.cycle.specs.Cycling.{startOf, cycleOf, outputsAfter}
 use Rattle.cycle.specs.declared.cycling.Cycled.{Cycled}
 use Rattle.claims.specs.Runs.{Call, answer, after}
 

@@ -29,31 +29,6 @@ use Rattle.cycle.specs.declared.cycling.Cycled.{Cycled}
 abbrev pub refused : ℕ → Run → Cycled
 refused code run = record { code = code; taken = 0; run = run }
 
--- the chart of lent tables
-abbrev pub chartOf : ℕ → ℕ → ℕ → ℕ → ℕ → List ℕ → List ℕ → List ℤ → List ℕ → List ℕ → List ℕ → List ℕ → List ℕ → List ℕ → List ℕ → List ℕ → List ℕ → List ℕ → List ℕ → List ℕ → Chart
-chartOf steps actions transitions blocks cases initial output value sources targets on off wait blockstep blockaction qualifier duration casestep signal expected = record {
-  steps = steps;
-  actions = actions;
-  transitions = transitions;
-  blocks = blocks;
-  cases = cases;
-  initial = initial;
-  output = output;
-  value = value;
-  sources = sources;
-  targets = targets;
-  on = on;
-  off = off;
-  wait = wait;
-  blockstep = blockstep;
-  blockaction = blockaction;
-  qualifier = qualifier;
-  duration = duration;
-  casestep = casestep;
-  signal = signal;
-  expected = expected;
-}
-
 -- "Start tests 15 and then the chart"
 abbrev pub startCode : Chart → ℕ → ℕ
 startCode c lent = orElse (unless (leb 32 lent) 15) (chartCode c)

@@ -1,7 +1,7 @@
 // One cycle after the other where the run lies. A single cycle is a list of one, so that the compiler has one place for the step, and puts it there.
 ghost use mathlib.Core.Path.{_≡_};
 ghost use Rattle.run.specs.Apart.{runOf};
-ghost use Rattle.cycle.specs.Cycling.{chartOf};
+ghost use Rattle.chart.specs.Chart.{chartOf};
 ghost use Rattle.cycle.specs.Calling.{callsOn, inParts};
 use crate::codes::TOO_LATE;
 use crate::cycling;

@@ -2,7 +2,8 @@
 ghost use mathlib.Core.Path.{_≡_};
 ghost use lib.ListN.{length};
 ghost use Rattle.run.specs.Apart.{runOf};
-ghost use Rattle.cycle.specs.Cycling.{chartOf, readyAfter, startOf, cycleOf, cycleOn, outputsAfter, refused};
+ghost use Rattle.chart.specs.Chart.{chartOf};
+ghost use Rattle.cycle.specs.Cycling.{readyAfter, startOf, cycleOf, cycleOn, outputsAfter, refused};
 use crate::calling;
 use crate::codes::FEW_OUTPUTS;
 use crate::stepping;

@@ -10,7 +10,8 @@ use Rattle.chart.specs.declared.chart.Chart.{Chart}
 use Rattle.run.specs.Apart.{runOf}
 use Rattle.run.specs.declared.run.Run.{Run}
 use Rattle.run.proofs.belongs.Laws.{own}
-use Rattle.cycle.specs.Cycling.{chartOf, refused, readyCode}
+use Rattle.chart.specs.Chart.{chartOf}
+use Rattle.cycle.specs.Cycling.{refused, readyCode}
 use Rattle.cycle.specs.Calling.{singly}
 use Rattle.cycle.proofs.cycling.Laws.{passed}
 use Rattle.cycle.proofs.cycling.Tested.{moves-on, comes-late}

@@ -3,7 +3,7 @@ use mathlib.Core.Path.{refl}
 use denote.Ref.{now}
 use Rattle.chart.specs.declared.chart.Chart.{Chart}
 use Rattle.run.proofs.apart.Laws.{put-together}
-use Rattle.cycle.specs.Cycling.{chartOf}
+use Rattle.chart.specs.Chart.{chartOf}
 use Rattle.cycle.proofs.calling.Laws.{one-cycle}
 use borrow.Author.Needs.{needs}
 use Rattle.cycle.proofs.cycling.cycle_on.Statement.{statement}

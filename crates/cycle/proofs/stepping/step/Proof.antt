@@ -8,7 +8,8 @@ use Rattle.chart.specs.declared.chart.Chart.{Chart}
 use Rattle.run.specs.Apart.{countersOf, timersOf, runOf}
 use Rattle.run.specs.declared.run.Run.{Run}
 use Rattle.cycle.specs.Bounds.{bounded}
-use Rattle.cycle.specs.Cycling.{chartOf, cycled}
+use Rattle.chart.specs.Chart.{chartOf}
+use Rattle.cycle.specs.Cycling.{cycled}
 use Rattle.cycle.proofs.cycling.Laws.{cycled-as, together}
 use Rattle.cycle.proofs.stepping.Laws.{within, counts-now, times-now, settled-counts, settled-times, acted-now}
 use borrow.Author.Needs.{needs}
