@@ -6,11 +6,14 @@ use lib.IntN.{ℤ}
 use lib.ListN.{length}
 use Rattle.sets.proofs.Unique.{one-answer}
 use Rattle.chart.specs.declared.chart.Chart.{Chart}
+use Rattle.run.specs.Apart.{wordsOf}
 use Rattle.run.specs.declared.run.Run.{Run}
 use Rattle.cycle.specs.Time.{elapsed}
-use Rattle.cycle.specs.Cycling.{readyAfter, startOf, cycleOf, outputsAfter, cycleOn}
+use Rattle.cycle.specs.Cycling.{readyAfter, startOf, cycleOf, outputsAfter}
+use Rattle.cycle.specs.Starting.{begun, startOn}
 use Rattle.cycle.specs.Calling.{InParts, inParts, callsOn}
 use Rattle.cycle.specs.declared.cycling.Cycled.{Cycled}
+use Rattle.cycle.specs.declared.starting.Started.{Started}
 
 pub elapsed-unique : (last new r q : ℕ) → r ≡ elapsed last new → q ≡ elapsed last new → r ≡ q
 elapsed-unique last new r q = one-answer
@@ -31,8 +34,11 @@ pub cycle-unique : (c : Chart) (run : Run) (clock inputs : ℕ) (r q : Cycled) (
 cycle-unique c run clock inputs r q out f g = both c (cycleOf c run clock inputs (length out)) r q out f g
 
 -- on lent tables: the answer and the outputs together
-pub cycle-on-unique : (c : Chart) (run : Run) (clock inputs : ℕ) (out : List ℤ) (r q : Cycled × List ℤ) → r ≡ cycleOn c run clock inputs out → q ≡ cycleOn c run clock inputs out → r ≡ q
-cycle-on-unique c run clock inputs out r q = one-answer
+pub start-on-unique : (c : Chart) (clock : ℕ) (out : List ℤ) (r q : Started) (f g : List ℤ) → _≡_ {A = Cycled × List ℤ} (begun r, f) (startOn c clock out)
+    → _≡_ {A = Cycled × List ℤ} (begun q, g) (startOn c clock out) → (r ≡ q) × (f ≡ g)
+start-on-unique c clock out r q f g e h =
+    let same : _≡_ {A = Cycled × List ℤ} (begun r, f) (begun q, g) = one-answer e h in
+    (ap (λ (p : Cycled × List ℤ). record { code = p .0 .code; words = wordsOf (p .0 .run) }) same, ap (λ (p : Cycled × List ℤ). p .1) same)
 
 -- where the run lies: the answer and all that is lent together
 pub cycles-on-unique : (c : Chart) (run : Run) (clocks inputs activities : List ℕ) (out : List ℤ) (r q : InParts)

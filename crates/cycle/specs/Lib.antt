@@ -4,5 +4,6 @@ pub mod Moving
 pub mod Outputs
 pub mod Bounds
 pub mod Cycling
+pub mod Starting
 pub mod Stepping
 pub mod Calling

@@ -6,6 +6,7 @@ pub mod codes;
 pub mod cycling;
 pub mod moving;
 pub mod outputs;
+pub mod starting;
 pub mod stepping;
 pub mod time;
 
@@ -13,6 +14,7 @@ pub use calling::Went;
 pub use calling::cycles_on;
 pub use cycling::Cycled;
 pub use cycling::cycle;
-pub use cycling::cycle_on;
 pub use cycling::ready_code;
-pub use cycling::start;
+pub use starting::Started;
+pub use starting::start;
+pub use starting::start_on;

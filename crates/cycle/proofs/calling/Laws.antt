@@ -150,7 +150,7 @@ module _ (c : Chart) (r : Run) (clocks inputs acts : List ℕ) (out : List ℤ) 
 abbrev answerIn : Calls → Cycled × List ℤ
 answerIn d = (record { code = d .code; taken = d .taken; run = d .run }, d .outputs)
 
-once : (c : Chart) (r : Run) (clock inputs : ℕ) (acts : List ℕ) (out : List ℤ) → length acts ≡ 1 → answerIn (callsOn c r (clock ∷ []) (inputs ∷ []) acts out) ≡ cycleOn c r clock inputs out
+pub once : (c : Chart) (r : Run) (clock inputs : ℕ) (acts : List ℕ) (out : List ℤ) → length acts ≡ 1 → answerIn (callsOn c r (clock ∷ []) (inputs ∷ []) acts out) ≡ cycleOn c r clock inputs out
 unfolding singly turns
 once c r clock inputs acts out h = go (eqb (readyCode c r (length out)) 0) refl
   where

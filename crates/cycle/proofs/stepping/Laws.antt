@@ -98,11 +98,11 @@ blank kept n k m = rw (getD-replicate {A = ℕ} n k 0 0 m) (go (has kept k))
     go true = refl
     go false = refl
 
-pub blank-counters : replicate 64 (counter 0) ≡ settledCounters (replicate 64 0) 0
-blank-counters = is-table _ 64 (replicate 64 (counter 0)) (counter 0) refl (λ k m. getD-replicate 64 k (counter 0) (counter 0) m ∙ ap counter (sym (blank 0 64 k m)))
+pub blank-counters : countersOf (replicate 64 0) ≡ settledCounters (replicate 64 0) 0
+blank-counters = settled-counts 0 (replicate 64 0) (replicate 64 0) (λ k m. getD-replicate 64 k 0 0 m ∙ sym (blank 0 64 k m))
 
-pub blank-timers : (latched : ℕ) → replicate 32 (timer 0) ≡ settledTimers (replicate 32 0) latched
-blank-timers latched = is-table _ 32 (replicate 32 (timer 0)) (timer 0) refl (λ k m. getD-replicate 32 k (timer 0) (timer 0) m ∙ ap timer (sym (blank latched 32 k m)))
+pub blank-timers : (latched : ℕ) → timersOf (replicate 32 0) ≡ settledTimers (replicate 32 0) latched
+blank-timers latched = settled-times latched (replicate 32 0) (replicate 32 0) (λ k m. getD-replicate 32 k 0 0 m ∙ sym (blank latched 32 k m))
 
 pub blank-acted : (c : Chart) (steps : Steps) → actedOn (bounded c) (replicate 64 0) (replicate 32 0) (allKept steps) 0 0 ≡ actedOn (bounded c) (replicate 64 0) (replicate 32 0) steps 0 0
 blank-acted c steps = acted-now c (replicate 64 0) (replicate 64 0) (replicate 32 0) steps 0 0 (λ k m. getD-replicate 64 k 0 0 m ∙ sym (blank (steps .kept) 64 k m))
