@@ -32,9 +32,16 @@ doneOf d = (answerOf (d .code) (d .accepted) (d .run), d .activities, d .outputs
 abbrev pub listsFit : ℕ → ℕ → ℕ → Bool
 listsFit clocks inputs words = eqb clocks inputs && eqb clocks words && leb clocks 4096
 
+abbrev pub listsCode : ℕ → ℕ → ℕ → ℕ
+listsCode clocks inputs words = unless (listsFit clocks inputs words) 18
+
+-- no clock of lists that are refused
+abbrev pub clocksTaken : ℕ → ℕ → ℕ
+clocksTaken code clocks = cond (eqb code 0) clocks 0
+
 -- "15, chart, 12, then 18"
 abbrev pub shiftCode : Chart → Run → ℕ → ℕ → ℕ → ℕ → ℕ
-shiftCode c r lent clocks inputs words = orElse (readyCode c r lent) (unless (listsFit clocks inputs words) 18)
+shiftCode c r lent clocks inputs words = orElse (readyCode c r lent) (listsCode clocks inputs words)
 
 -- "all before any cycle, with 0 accepted and nothing written"
 abbrev pub shiftOf : Chart → Run → List ℕ → List ℕ → List ℕ → List ℤ → Done

@@ -3,4 +3,6 @@ pub mod codes;
 pub mod shifting;
 
 pub use shifting::Shifted;
+pub use shifting::clocks_taken;
+pub use shifting::lists_code;
 pub use shifting::shift;

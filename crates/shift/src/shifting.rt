@@ -1,6 +1,7 @@
 // The cycles of a shift: the run is taken apart once and changed where it lies, and the chart and the run are tested once, before the first.
 ghost use mathlib.Core.Path.{_≡_};
-ghost use Rattle.shift.specs.Shifting.{listsFit, answerOf, shiftOf};
+ghost use Prim.Native.Nat.{_≤_};
+ghost use Rattle.shift.specs.Shifting.{listsCode, clocksTaken, shiftOf};
 use crate::codes::UNEVEN_LISTS;
 use chart::Chart;
 use run::Run;
@@ -11,20 +12,19 @@ pub struct Shifted {
     pub run: Run,
 }
 
-fn refused(code: u8, run: Run) -> Shifted
-    ensures { λ r. ⌜ r ≡ answerOf code 0 run ⌝ }
+// The number of refusal that the three lists get.
+pub fn lists_code(clocks: usize, inputs: usize, activities: usize) -> u8
+    ensures { λ r. ⌜ r ≡ listsCode clocks inputs activities ⌝ }
 {
-    Shifted {
-        code,
-        accepted: 0,
-        run,
-    }
+    let fit = (clocks == inputs) & (clocks == activities) & (clocks <= 4096);
+    fields::unless(fit, UNEVEN_LISTS)
 }
 
-fn lists_fit(clocks: usize, inputs: usize, activities: usize) -> bool
-    ensures { λ r. ⌜ r ≡ listsFit clocks inputs activities ⌝ }
+// How many clocks are looked at, by that number: none where the lists do not fit, so that no cycle is made and only 15, the chart and 12 are tested.
+pub fn clocks_taken(code: u8, clocks: usize) -> usize
+    ensures { λ r. ⌜ (r ≡ clocksTaken code clocks) × (r ≤ clocks) ⌝ }
 {
-    (clocks == inputs) & (clocks == activities) & (clocks <= 4096)
+    if code == 0 { clocks } else { 0 }
 }
 
 pub fn shift(
@@ -41,20 +41,8 @@ pub fn shift(
     let timers = run.timers;
     let mut counts = run::counts_of(counters);
     let mut times = run::times_of(timers);
-    let words = run::words_of(run);
-    if !lists_fit(clocks.len(), inputs.len(), activities.len()) {
-        let code = cycle::ready_code(
-            chart::chart_code(chart),
-            chart.steps,
-            chart.actions,
-            chart.cases,
-            words,
-            &counts,
-            &times,
-            outputs.len(),
-        );
-        return refused(fields::or_else(code, UNEVEN_LISTS), run);
-    }
+    let uneven = lists_code(clocks.len(), inputs.len(), activities.len());
+    let n = clocks_taken(uneven, clocks.len());
     let o = cycle::cycles_on(
         chart.steps,
         chart.actions,
@@ -76,17 +64,17 @@ pub fn shift(
         &chart.casestep,
         &chart.signal,
         &chart.expected,
-        words,
+        run::words_of(run),
         &mut counts,
         &mut times,
-        clocks,
+        &clocks[..n],
         inputs,
         activities,
         outputs,
     );
     let after = o.words;
     Shifted {
-        code: o.code,
+        code: fields::or_else(o.code, uneven),
         accepted: o.accepted,
         run: run::run_of(after, counts, times),
     }
