@@ -6,3 +6,4 @@ pub mod writing;
 
 pub use writing::Writing;
 pub use writing::write_chart;
+pub use writing::write_on;

@@ -4,6 +4,7 @@ ghost use mathlib.Core.List.{List};
 ghost use Prim.Native.Nat.{ℕ, _+_, _*_, _≤_};
 ghost use lib.ListN.{length};
 ghost use Rattle.sets.specs.Bytes.{Put};
+ghost use Rattle.chart.specs.Chart.{chartOf};
 ghost use Rattle.writer.specs.Writing.{stepIn, actionIn, transitionIn, blockIn, caseIn, records, fileLength, refused, writeChart};
 ghost use Rattle.writer.specs.declared.writing.Writing.{Writing};
 use crate::codes::TOO_FEW_BYTES;
@@ -136,10 +137,92 @@ fn file_length(
     5 * steps + 9 * actions + 40 * transitions + 11 * blocks + 7 * cases + 4
 }
 
+// A held chart's tables, lent, written: a caller that holds the chart hands no copy of it down.
+pub fn write_on<'a>(
+    steps: usize,
+    actions: usize,
+    transitions: usize,
+    blocks: usize,
+    cases: usize,
+    initial: &'a [u8; 64],
+    output: &'a [u8; 32],
+    value: &'a [i32; 32],
+    sources: &'a [u64; 64],
+    targets: &'a [u64; 64],
+    on: &'a [u64; 64],
+    off: &'a [u64; 64],
+    wait: &'a [u32; 64],
+    blockstep: &'a [u8; 256],
+    blockaction: &'a [u8; 256],
+    qualifier: &'a [u8; 256],
+    duration: &'a [u32; 256],
+    casestep: &'a [u8; 64],
+    signal: &'a [u8; 64],
+    expected: &'a [u8; 64],
+    bytes: &mut [u8],
+) -> Writing
+    ensures { λ r. ⌜ _≡_ {A = Writing × List ℕ} (r, now (bytes .exit)) (writeChart (chartOf steps actions transitions blocks cases (now (initial .entry)) (now (output .entry)) (now (value .entry)) (now (sources .entry)) (now (targets .entry)) (now (on .entry)) (now (off .entry)) (now (wait .entry)) (now (blockstep .entry)) (now (blockaction .entry)) (now (qualifier .entry)) (now (duration .entry)) (now (casestep .entry)) (now (signal .entry)) (now (expected .entry))) (now (bytes .entry))) ⌝ }
+{
+    let code = chart::held_code(
+        steps,
+        actions,
+        transitions,
+        blocks,
+        cases,
+        initial,
+        output,
+        sources,
+        targets,
+        on,
+        off,
+        wait,
+        blockstep,
+        blockaction,
+        qualifier,
+        duration,
+        casestep,
+        signal,
+        expected,
+    );
+    if code != 0 {
+        return refused(code);
+    }
+    let length = file_length(steps, actions, transitions, blocks, cases);
+    if bytes.len() < length {
+        return refused(TOO_FEW_BYTES);
+    }
+    let after_steps = put_steps(bytes, 0, steps, initial);
+    let after_actions = put_actions(bytes, after_steps, actions, output, value);
+    let after_transitions = put_transitions(
+        bytes,
+        after_actions,
+        transitions,
+        sources,
+        targets,
+        on,
+        off,
+        wait,
+    );
+    let after_blocks = put_blocks(
+        bytes,
+        after_transitions,
+        blocks,
+        blockstep,
+        blockaction,
+        qualifier,
+        duration,
+    );
+    let after_cases = put_cases(bytes, after_blocks, cases, casestep, signal, expected);
+    Writing {
+        code: 0,
+        length: records::put_end(bytes, after_cases),
+    }
+}
+
 pub fn write_chart(chart: Chart, bytes: &mut [u8]) -> Writing
     ensures { λ r. ⌜ _≡_ {A = Writing × List ℕ} (r, now (bytes .exit)) (writeChart chart (now (bytes .entry))) ⌝ }
 {
-    let code = chart::held_code(
+    write_on(
         chart.steps,
         chart.actions,
         chart.transitions,
@@ -147,6 +230,7 @@ pub fn write_chart(chart: Chart, bytes: &mut [u8]) -> Writing
         chart.cases,
         &chart.initial,
         &chart.output,
+        &chart.value,
         &chart.sources,
         &chart.targets,
         &chart.on,
@@ -159,51 +243,6 @@ pub fn write_chart(chart: Chart, bytes: &mut [u8]) -> Writing
         &chart.casestep,
         &chart.signal,
         &chart.expected,
-    );
-    if code != 0 {
-        return refused(code);
-    }
-    let length = file_length(
-        chart.steps,
-        chart.actions,
-        chart.transitions,
-        chart.blocks,
-        chart.cases,
-    );
-    if bytes.len() < length {
-        return refused(TOO_FEW_BYTES);
-    }
-    let actions = put_steps(bytes, 0, chart.steps, &chart.initial);
-    let transitions = put_actions(bytes, actions, chart.actions, &chart.output, &chart.value);
-    let blocks = put_transitions(
         bytes,
-        transitions,
-        chart.transitions,
-        &chart.sources,
-        &chart.targets,
-        &chart.on,
-        &chart.off,
-        &chart.wait,
-    );
-    let cases = put_blocks(
-        bytes,
-        blocks,
-        chart.blocks,
-        &chart.blockstep,
-        &chart.blockaction,
-        &chart.qualifier,
-        &chart.duration,
-    );
-    let end = put_cases(
-        bytes,
-        cases,
-        chart.cases,
-        &chart.casestep,
-        &chart.signal,
-        &chart.expected,
-    );
-    Writing {
-        code: 0,
-        length: records::put_end(bytes, end),
-    }
+    )
 }
