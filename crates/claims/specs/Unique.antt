@@ -43,12 +43,14 @@ use Rattle.run.specs.declared.run.ActionTimer.{ActionTimer}
 use Rattle.run.specs.declared.run.Run.{Run}
 use Rattle.run.proofs.Unique.{belongs-unique, parts-belong-unique, counter-longer-unique, timer-longer-unique, no-run-unique, words-of-unique, counts-of-unique, times-of-unique, run-of-unique}
 use Rattle.cycle.specs.Time.{elapsed}
-use Rattle.cycle.specs.Cycling.{readyAfter, startOf, cycleOf, outputsAfter, cycleOn}
+use Rattle.cycle.specs.Cycling.{readyAfter, startOf, cycleOf, outputsAfter}
+use Rattle.cycle.specs.Starting.{begun, startOn}
 use Rattle.cycle.specs.Calling.{InParts, inParts, callsOn}
 use Rattle.cycle.specs.declared.cycling.Cycled.{Cycled}
-use Rattle.cycle.proofs.Unique.{start-unique, cycle-unique, cycle-on-unique, ready-code-unique, cycles-on-unique, elapsed-unique}
-use Rattle.shift.specs.Shifting.{Done, shiftOf}
-use Rattle.shift.proofs.Unique.{shift-unique}
+use Rattle.cycle.specs.declared.starting.Started.{Started}
+use Rattle.cycle.proofs.Unique.{start-unique, cycle-unique, start-on-unique, ready-code-unique, cycles-on-unique, elapsed-unique}
+use Rattle.shift.specs.Shifting.{Done, listsCode, clocksTaken, shiftOf}
+use Rattle.shift.proofs.Unique.{lists-code-unique, clocks-taken-unique, shift-unique}
 use Rattle.trace.specs.Tracing.{callAt, numberOf, traceNumber}
 use Rattle.trace.specs.declared.tracing.Call.{Call}
 use Rattle.trace.proofs.Unique.{call-at-unique}
@@ -150,13 +152,13 @@ pub record RunUnique : Type 0 where
   pub times-of : (timers : List ActionTimer) → One (λ (r : List ℕ). (r ≡ timesOf timers) × (length timers ≡ 32))
   pub run-of : (words : Words) (counts times : List ℕ) → One (λ (r : Run). r ≡ runOf words counts times)
 
--- cycle/src: calling, cycling, time
+-- cycle/src: calling, cycling, starting, time
 pub record CycleUnique : Type 0 where
   pub start : (chart : Chart) (clock : ℕ) (outputs : List ℤ)
       → Both (λ (r : Cycled) (exit : List ℤ). (r ≡ startOf chart clock (length outputs)) × (exit ≡ outputsAfter chart r outputs))
   pub cycle : (chart : Chart) (run : Run) (clock inputs : ℕ) (outputs : List ℤ)
       → Both (λ (r : Cycled) (exit : List ℤ). (r ≡ cycleOf chart run clock inputs (length outputs)) × (exit ≡ outputsAfter chart r outputs))
-  pub cycle-on : (lent : Chart) (run : Run) (clock inputs : ℕ) (outputs : List ℤ) → One (λ (r : Cycled × List ℤ). r ≡ cycleOn lent run clock inputs outputs)
+  pub start-on : (lent : Chart) (clock : ℕ) (outputs : List ℤ) → Both (λ (r : Started) (exit : List ℤ). (begun r, exit) ≡ startOn lent clock outputs)
   pub ready-code : (held steps actions cases : ℕ) (words : Words) (counts times : List ℕ) (outputs : ℕ)
       → One (λ (r : ℕ). (r ≡ readyAfter held steps actions cases (runOf words counts times) outputs) × (length counts ≡ 64) × (length times ≡ 32))
   pub cycles-on : (lent : Chart) (words : Words) (counts times clocks inputs activities : List ℕ) (outputs : List ℤ)
@@ -165,6 +167,8 @@ pub record CycleUnique : Type 0 where
 
 -- shift/src: shifting
 pub record ShiftUnique : Type 0 where
+  pub lists-code : (clocks inputs words : ℕ) → One (λ (r : ℕ). r ≡ listsCode clocks inputs words)
+  pub clocks-taken : (code clocks : ℕ) → One (λ (r : ℕ). (r ≡ clocksTaken code clocks) × (r ≤ clocks))
   pub shift : (chart : Chart) (run : Run) (clocks inputs words : List ℕ) (outputs : List ℤ) → One (λ (r : Done). r ≡ shiftOf chart run clocks inputs words outputs)
 
 -- trace/src: tracing
@@ -173,11 +177,14 @@ pub record TraceUnique : Type 0 where
 
 -- tally/src: tallying, weighing
 pub record TallyUnique : Type 0 where
+  pub tally-on : (lent : Chart) (words : Words) (counts times : List ℕ) → One (λ (r : Tallied). r ≡ tallyOf lent (runOf words counts times))
   pub tally : (chart : Chart) (run : Run) → One (λ (r : Tallied). r ≡ tallyOf chart run)
+  pub weigh-on : (lent : Chart) (weights : List ℕ) → One (λ (r : Weighed). r ≡ weighOf lent weights)
   pub weigh : (chart : Chart) (weights : List ℕ) → One (λ (r : Weighed). r ≡ weighOf chart weights)
 
 -- writer/src: writing
 pub record WriterUnique : Type 0 where
+  pub write-on : (lent : Chart) (bytes : List ℕ) → One (λ (r : Writing × List ℕ). r ≡ writeChart lent bytes)
   pub write-chart : (chart : Chart) (bytes : List ℕ) → One (λ (r : Writing × List ℕ). r ≡ writeChart chart bytes)
 
 -- report/src: printing
@@ -266,15 +273,24 @@ unique = record {
   cycle = record {
     start = λ chart clock outputs r q f g a b. start-unique chart clock r q outputs f g (a .0) (b .0) (a .1) (b .1);
     cycle = λ chart run clock inputs outputs r q f g a b. cycle-unique chart run clock inputs r q outputs f g (a .0) (b .0) (a .1) (b .1);
-    cycle-on = cycle-on-unique;
+    start-on = start-on-unique;
     ready-code = λ held steps actions cases words counts times outputs r q a b. ready-code-unique held steps actions cases (runOf words counts times) outputs r q (a .0) (b .0);
     cycles-on = λ lent words counts times. cycles-on-unique lent (runOf words counts times);
     elapsed = elapsed-unique;
   };
-  shift = record { shift = shift-unique };
+  shift = record {
+    lists-code = lists-code-unique;
+    clocks-taken = λ code clocks r q a b. clocks-taken-unique code clocks r q (a .0) (b .0);
+    shift = shift-unique;
+  };
   trace = record { call-at = call-at-unique };
-  tally = record { tally = tally-unique; weigh = weigh-unique };
-  writer = record { write-chart = write-chart-unique };
+  tally = record {
+    tally-on = λ lent words counts times. tally-unique lent (runOf words counts times);
+    tally = tally-unique;
+    weigh-on = weigh-unique;
+    weigh = weigh-unique;
+  };
+  writer = record { write-on = write-chart-unique; write-chart = write-chart-unique };
   report = record {
     opening = opening-unique;
     print-next = λ code chart trace standing line r q f g. print-next-unique code chart trace standing line f g r q;

@@ -5,5 +5,7 @@ pub mod weighing;
 
 pub use tallying::Tallied;
 pub use tallying::tally;
+pub use tallying::tally_on;
 pub use weighing::Weighed;
 pub use weighing::weigh;
+pub use weighing::weigh_on;

@@ -3,6 +3,7 @@ ghost use mathlib.Core.Path.{_≡_};
 ghost use mathlib.Core.Bool.{cond};
 ghost use Prim.Native.Nat.{_+_, _≤_};
 ghost use lib.ListN.{length};
+ghost use Rattle.chart.specs.Chart.{chartOf};
 ghost use Rattle.tally.specs.Weighing.{weightIn, unbalanced, refused, weighOf};
 use crate::codes::UNBALANCED;
 use crate::codes::WRONG_WEIGHTS;
@@ -65,24 +66,94 @@ fn unbalanced<'a>(
     0
 }
 
-pub fn weigh(chart: Chart, weights: &[u16]) -> Weighed
-    ensures { λ r. ⌜ r ≡ weighOf chart (now (weights .entry)) ⌝ }
+// The weighing on a chart's lent tables: a caller that holds the chart hands no copy of it down.
+pub fn weigh_on<'a>(
+    steps: usize,
+    actions: usize,
+    transitions: usize,
+    blocks: usize,
+    cases: usize,
+    initial: &'a [u8; 64],
+    output: &'a [u8; 32],
+    value: &'a [i32; 32],
+    sources: &'a [u64; 64],
+    targets: &'a [u64; 64],
+    on: &'a [u64; 64],
+    off: &'a [u64; 64],
+    wait: &'a [u32; 64],
+    blockstep: &'a [u8; 256],
+    blockaction: &'a [u8; 256],
+    qualifier: &'a [u8; 256],
+    duration: &'a [u32; 256],
+    casestep: &'a [u8; 64],
+    signal: &'a [u8; 64],
+    expected: &'a [u8; 64],
+    weights: &'a [u16],
+) -> Weighed
+    ensures { λ r. ⌜ r ≡ weighOf (chartOf steps actions transitions blocks cases (now (initial .entry)) (now (output .entry)) (now (value .entry)) (now (sources .entry)) (now (targets .entry)) (now (on .entry)) (now (off .entry)) (now (wait .entry)) (now (blockstep .entry)) (now (blockaction .entry)) (now (qualifier .entry)) (now (duration .entry)) (now (casestep .entry)) (now (signal .entry)) (now (expected .entry))) (now (weights .entry)) ⌝ }
 {
-    let code = chart::chart_code(chart);
+    let code = chart::held_code(
+        steps,
+        actions,
+        transitions,
+        blocks,
+        cases,
+        initial,
+        output,
+        sources,
+        targets,
+        on,
+        off,
+        wait,
+        blockstep,
+        blockaction,
+        qualifier,
+        duration,
+        casestep,
+        signal,
+        expected,
+    );
     if code != 0 {
         return refused(code, 0);
     }
-    if weights.len() != chart.steps {
+    if weights.len() != steps {
         return refused(WRONG_WEIGHTS, 0);
     }
-    let first = unbalanced(chart.transitions, &chart.sources, &chart.targets, weights);
+    let first = unbalanced(transitions, sources, targets, weights);
     if first != 0 {
         return refused(UNBALANCED, first - 1);
     }
-    let initial = chart::initial_of(chart.steps, &chart.initial);
     Weighed {
         code: 0,
         transition: 0,
-        total: weight_in(initial, weights),
+        total: weight_in(chart::initial_of(steps, initial), weights),
     }
+}
+
+pub fn weigh(chart: Chart, weights: &[u16]) -> Weighed
+    ensures { λ r. ⌜ r ≡ weighOf chart (now (weights .entry)) ⌝ }
+{
+    weigh_on(
+        chart.steps,
+        chart.actions,
+        chart.transitions,
+        chart.blocks,
+        chart.cases,
+        &chart.initial,
+        &chart.output,
+        &chart.value,
+        &chart.sources,
+        &chart.targets,
+        &chart.on,
+        &chart.off,
+        &chart.wait,
+        &chart.blockstep,
+        &chart.blockaction,
+        &chart.qualifier,
+        &chart.duration,
+        &chart.casestep,
+        &chart.signal,
+        &chart.expected,
+        weights,
+    )
 }
