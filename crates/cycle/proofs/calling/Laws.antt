@@ -72,28 +72,6 @@ pub in-parts : (code k taken : ℕ) (w : Words) (counts times acts : List ℕ) (
 in-parts code k taken w counts times acts out d l m e =
     ap₂ {C = InParts} (λ (cs ts : List ℕ). (record { code = code; accepted = k; taken = taken; words = w }, cs, ts, acts, out)) (same-counts counts l) (same-times times m) ∙ ap inParts e
 
--- ---- how many are accepted
-
-module _ (c : Chart) (r : Run) (clocks inputs acts : List ℕ) (out : List ℤ) where
-  -- one call accepts at most one more
-  one-at-most : (k : ℕ) (d : Calls) → d .accepted ≤ k → onward c clocks inputs k d .accepted ≤ suc k
-  one-at-most k d h = go (eqb (d .code) 0) (eqb (o .0 .code) 0)
-    where
-      o : Cycled × List ℤ
-      o = cycleOn c (d .run) (getD clocks k 0) (getD inputs k 0) (d .outputs)
-
-      go : (b e : Bool)
-          → cond b (cond e (madeOf 0 (suc k) (o .0 .taken) (o .0 .run) (set (d .activities) k (o .0 .run .activity)) (o .1)) (madeOf (o .0 .code) k (o .0 .taken) (o .0 .run) (d .activities) (o .1))) d .accepted ≤ suc k
-      go true true = omega arith
-      go true false = omega arith
-      go false e = omega arith
-
-  -- n calls accept at most n
-  pub at-most : (n : ℕ) → singly c r clocks inputs acts out n .accepted ≤ n
-  unfolding singly turns
-  at-most zero = omega arith
-  at-most (suc n) = one-at-most n (turns (onward c clocks inputs) (noCalls 0 r acts out) n) (at-most n)
-
 -- ---- a run of 64 counters and 32 timers keeps them, and so is what its parts make
 
 abbrev pub Long : Run → Type 0

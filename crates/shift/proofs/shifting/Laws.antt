@@ -12,18 +12,15 @@ use borrow.Author.Tests.{leb-true, eqb-true, eqb-false, ne-eqb}
 use Rattle.sets.specs.Loops.{orElse}
 use Rattle.sets.proofs.Loops.{and-true, else-zero}
 use Rattle.fields.specs.Fields.{unless}
-use Rattle.chart.specs.Held.{chartCode}
 use Rattle.chart.specs.declared.chart.Chart.{Chart}
-use Rattle.chart.proofs.held.Sound.{fits}
 use Rattle.run.specs.Apart.{runOf}
 use Rattle.run.specs.declared.apart.Words.{Words}
 use Rattle.run.specs.declared.run.Run.{Run}
-use Rattle.cycle.specs.Cycling.{readyCode, readyAfter}
+use Rattle.cycle.specs.Cycling.{readyCode}
 use Rattle.cycle.specs.Calling.{Calls, noCalls, singly, callsOn, InParts, inParts}
 use Rattle.cycle.proofs.cycling.Laws.{stops}
-use Rattle.cycle.proofs.calling.Laws.{at-most, none-called, parts-long, put-back}
+use Rattle.cycle.proofs.calling.Laws.{none-called, parts-long, put-back}
 use Rattle.shift.specs.Shifting.{Done, answerOf, doneOf, listsFit, listsCode, clocksTaken, shiftCode, shiftOf}
-use Rattle.shift.specs.declared.shifting.Shifted.{Shifted}
 
 -- lists that fit
 pub fit : (clocks inputs words : ℕ) → listsFit clocks inputs words ≡ true → (inputs ≡ clocks) × (words ≡ clocks) × (clocks ≤ 4096)
@@ -123,17 +120,3 @@ module _ (c : Chart) (r : Run) (clocks inputs words : List ℕ) (out : List ℤ)
       ∙ ap₂ {C = Done} (λ (p : InParts) (x : Run). (answerOf (orElse (p .0 .code) uneven) (p .0 .accepted) x, p .3, p .4)) h (put-back c run (some uneven) inputs words out (parts-long w counts times) g next h q)
       ∙ ap (λ (x : Run). told uneven (callsOn c x (some uneven) inputs words out)) (sym e)
       ∙ all-told
-
--- ---- how many are accepted
-
-module _ (c : Chart) (r : Run) (clocks inputs words : List ℕ) (out : List ℤ) where
-  -- "up to 4,096 cycles"
-  pub few-accepted : shiftOf c r clocks inputs words out .0 .accepted ≤ 4096
-  few-accepted = go (eqb (tests c r clocks inputs words out) 0) refl
-    where
-      go : (b : Bool) → eqb (tests c r clocks inputs words out) 0 ≡ b
-          → cond b (doneOf (singly c r clocks inputs words out (length clocks))) (answerOf (tests c r clocks inputs words out) 0 r, words, out) .0 .accepted ≤ 4096
-      go true e =
-          let listed = else-zero (readyCode c r (length out)) _ (eqb-true _ 0 e) .1 in
-          omega (arith, at-most c r clocks inputs words out (length clocks), fit (length clocks) (length inputs) (length words) (fits _ 18 (λ z. omega arith) listed))
-      go false e = omega arith
