@@ -1,37 +1,35 @@
--- Two answers that one statement allows are equal, for each public function.
+-- Two answers that one statement allows are equal, with all that they leave, for each entry.
 use Prim.Native.Nat.{ℕ}
 use mathlib.Core.List.{List}
-use mathlib.Core.Path.{_≡_}
+use mathlib.Core.Path.{_≡_, sym, ap, _∙_}
+use lib.IntN.{ℤ}
 use Rattle.sets.proofs.Unique.{one-answer}
 use Rattle.chart.specs.declared.chart.Chart.{Chart}
-use Rattle.engine.specs.Runs.{startsOf, cyclesOf, shiftsOf, readsOf, testsOf, writesOf}
+use Rattle.reader.specs.Reading.{readChart}
+use Rattle.reader.specs.declared.framing.Next.{Next}
+use Rattle.records.specs.declared.Found.{Found}
+use Rattle.records.proofs.Unique.{record-from-unique}
+use Rattle.cycle.specs.declared.cycling.Cycled.{Cycled}
+use Rattle.shift.specs.Shifting.{Done}
+use Rattle.engine.specs.Lent.{Left, left, ShiftLeft, shiftLeft, toldOf, Tells, readAs}
+use Rattle.engine.specs.declared.filing.Told.{Told}
 
--- the number and the image together
-pub starts-unique : (chart : List ℕ) (clock : ℕ) (image : List ℕ) (r q : ℕ × List ℕ)
-    → r ≡ startsOf chart clock image
-    → q ≡ startsOf chart clock image
-    → r ≡ q
-starts-unique chart clock image r q = one-answer
+-- a start, a cycle, and one by the lent run
+pub left-unique : (o : Cycled × List ℤ) (r q : Left) → r ≡ left o → q ≡ left o → r ≡ q
+left-unique o r q = one-answer
 
-pub cycles-unique : (chart clocks inputs waits : List ℕ) (n : ℕ) (image : List ℕ) (r q : ℕ × List ℕ)
-    → r ≡ cyclesOf chart clocks inputs waits n image
-    → q ≡ cyclesOf chart clocks inputs waits n image
-    → r ≡ q
-cycles-unique chart clocks inputs waits n image r q = one-answer
+pub shift-left-unique : (o : Done) (r q : ShiftLeft) → r ≡ shiftLeft o → q ≡ shiftLeft o → r ≡ q
+shift-left-unique o r q = one-answer
 
--- the number, the activity words and the image together
-pub shifts-unique : (chart clocks inputs words image : List ℕ) (r q : ℕ × List ℕ × List ℕ)
-    → r ≡ shiftsOf chart clocks inputs words image
-    → q ≡ shiftsOf chart clocks inputs words image
-    → r ≡ q
-shifts-unique chart clocks inputs words image r q = one-answer
+-- what is told of a record, and where the next question goes
+abbrev Spelled : Type 0
+Spelled = Told × ℕ × ℕ
 
-pub reads-unique : (chart : List ℕ) (n r q : ℕ) → r ≡ readsOf chart n → q ≡ readsOf chart n → r ≡ q
-reads-unique chart n r q = one-answer
+abbrev tellsOf : Spelled → List ℕ → ℕ → ℕ → Type 0
+tellsOf (t, next, kept) s at before = Tells (t .code) (t .kind) (t .place) (t .length) next kept s at before
 
-pub tests-unique : (c : Chart) (n r q : ℕ) → r ≡ testsOf c n → q ≡ testsOf c n → r ≡ q
-tests-unique c n r q = one-answer
-
--- the length and the file together
-pub writes-unique : (c : Chart) (n : ℕ) (file : List ℕ) (r q : ℕ × List ℕ) → r ≡ writesOf c n file → q ≡ writesOf c n file → r ≡ q
-writes-unique c n file r q = one-answer
+pub next-record-unique : (s : List ℕ) (at before : ℕ) (r q : Spelled) → tellsOf r s at before → tellsOf q s at before → r ≡ q
+next-record-unique s at before r q e f =
+    let same = record-from-unique s at before _ _ (e .finds) (f .finds) in
+    let told = e .told ∙ ap (λ (d : Found). toldOf (d .answer)) same ∙ sym (f .told) in
+    λ i. (told i, same i .at, same i .before)

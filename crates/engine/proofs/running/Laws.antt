@@ -1,0 +1,55 @@
+-- What the parts answer is what an entry leaves.
+use Prim.Native.Nat.{ℕ}
+use mathlib.Core.List.{List, [], _∷_}
+use mathlib.Core.Path.{_≡_, refl, sym, ap, ap₂, _∙_}
+use lib.IntN.{ℤ}
+use lib.ListN.{length, replicate}
+use Rattle.sets.specs.Loops.{orElse}
+use Rattle.chart.specs.declared.chart.Chart.{Chart}
+use Rattle.run.specs.Apart.{wordsOf, countsOf, timesOf}
+use Rattle.run.specs.declared.apart.Words.{Words}
+use Rattle.run.specs.declared.run.Run.{Run}
+use Rattle.run.proofs.apart.Laws.{same-counts, same-times}
+use Rattle.cycle.specs.Cycling.{cycleOf, cycleOn, outputsAfter}
+use Rattle.cycle.specs.Starting.{begun, startOn}
+use Rattle.cycle.specs.Calling.{callsOn, InParts, inParts}
+use Rattle.cycle.specs.declared.cycling.Cycled.{Cycled}
+use Rattle.cycle.specs.declared.starting.Started.{Started}
+use Rattle.cycle.proofs.cycling.Laws.{together}
+use Rattle.cycle.proofs.calling.Laws.{once}
+use Rattle.shift.specs.Shifting.{shiftOf}
+use Rattle.shift.proofs.shifting.Laws.{uneven, some, all-told}
+use Rattle.engine.specs.Lent.{Left, left, ShiftLeft, shiftLeft}
+
+-- a start's counters and timers are 0
+pub start-left : (c : Chart) (clock : ℕ) (out after : List ℤ) (s : Started) (w : Words) → _≡_ {A = Cycled × List ℤ} (begun s, after) (startOn c clock out) → w ≡ s .words
+    → _≡_ {A = Left} (s .code, 0, (w, replicate 64 0, replicate 32 0), after) (left (startOn c clock out))
+start-left c clock out after s w e f =
+    ap {B = Left} (λ (x : Words). (s .code, 0, (x, replicate 64 0, replicate 32 0), after)) f
+    ∙ ap₂ {C = Left} (λ (cs ts : List ℕ). (s .code, 0, (s .words, cs, ts), after)) (same-counts (replicate 64 0) refl) (same-times (replicate 32 0) refl)
+    ∙ ap left e
+
+-- a cycle is a list of one
+pub cycle-left : (c : Chart) (r : Run) (clock inputs : ℕ) (acts : List ℕ) (out : List ℤ) (g : InParts) (w : Words) → length acts ≡ 1
+    → g ≡ inParts (callsOn c r (clock ∷ []) (inputs ∷ []) acts out) → w ≡ g .0 .words
+    → _≡_ {A = Left} (g .0 .code, g .0 .taken, (w, g .1, g .2), g .4) (left (cycleOn c r clock inputs out))
+cycle-left c r clock inputs acts out g w l e f =
+    ap {B = Left} (λ (x : Words). (g .0 .code, g .0 .taken, (x, g .1, g .2), g .4)) f
+    ∙ ap {B = Left} (λ (p : InParts). (p .0 .code, p .0 .taken, (p .0 .words, p .1, p .2), p .4)) e
+    ∙ ap left (once c r clock inputs acts out l)
+
+-- a shift is the calls that are made, and then 18
+pub shift-left : (c : Chart) (r : Run) (clocks inputs acts : List ℕ) (out : List ℤ) (g : InParts) (w : Words) (code : ℕ)
+    → g ≡ inParts (callsOn c r (some c r clocks inputs acts out (uneven c r clocks inputs acts out)) inputs acts out) → w ≡ g .0 .words → code ≡ orElse (g .0 .code) (uneven c r clocks inputs acts out)
+    → _≡_ {A = ShiftLeft} (code, g .0 .accepted, (w, g .1, g .2), g .3, g .4) (shiftLeft (shiftOf c r clocks inputs acts out))
+shift-left c r clocks inputs acts out g w code e f h =
+    ap₂ {C = ShiftLeft} (λ (n : ℕ) (x : Words). (n, g .0 .accepted, (x, g .1, g .2), g .3, g .4)) h f
+    ∙ ap {B = ShiftLeft} (λ (p : InParts). (orElse (p .0 .code) (uneven c r clocks inputs acts out), p .0 .accepted, (p .0 .words, p .1, p .2), p .3, p .4)) e
+    ∙ ap shiftLeft (all-told c r clocks inputs acts out)
+
+-- the cycle by value, taken apart
+pub value-left : (c : Chart) (r given : Run) (clock inputs : ℕ) (out after : List ℤ) (o : Cycled) (w : Words) (counts times : List ℕ) → given ≡ r
+    → (o ≡ cycleOf c given clock inputs (length out)) × (after ≡ outputsAfter c o out) → w ≡ wordsOf (o .run) → counts ≡ countsOf (o .run .counters) → times ≡ timesOf (o .run .timers)
+    → _≡_ {A = Left} (o .code, o .taken, (w, counts, times), after) (left (cycleOn c r clock inputs out))
+value-left c r given clock inputs out after o w counts times q e f g h =
+    rw (f, g, h) (ap left (together c (cycleOf c given clock inputs (length out)) o out after (e .0) (e .1)) ∙ ap (λ (x : Run). left (cycleOn c x clock inputs out)) q)

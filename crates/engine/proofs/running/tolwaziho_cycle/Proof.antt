@@ -1,0 +1,58 @@
+-- A list of one where the run lies, its words stored one by one.
+use denote.Ref.{now}
+use Rattle.chart.specs.Chart.{chartOf}
+use Rattle.chart.specs.declared.chart.Chart.{Chart}
+use Rattle.run.specs.Apart.{runOf}
+use Rattle.run.specs.declared.run.Run.{Run}
+use Rattle.engine.specs.Lent.{wordsAt}
+use mathlib.Core.Path.{refl}
+use Rattle.engine.proofs.running.Laws.{cycle-left}
+use borrow.Author.Needs.{needs}
+use Rattle.engine.proofs.running.tolwaziho_cycle.Statement.{statement}
+use Rattle.engine.proofs.running.tolwaziho_cycle.Tie as tie
+
+abbrev chart : tie.Start → Chart
+chart s =
+    let a = s .args in
+    chartOf (a .steps) (a .actions) (a .transitions) (a .blocks) (a .cases) (now (a .initial)) (now (a .output)) (now (a .value)) (now (a .sources)) (now (a .targets)) (now (a .on)) (now (a .off)) (now (a .wait)) (now (a .blockstep)) (now (a .blockaction)) (now (a .qualifier)) (now (a .duration)) (now (a .casestep)) (now (a .signal)) (now (a .expected))
+
+abbrev run : tie.Start → Run
+run s =
+    let a = s .args in
+    runOf (wordsAt (now (a .clock)) (now (a .active)) (now (a .activity)) (now (a .stored)) (now (a .latched)) (now (a .good)) (now (a .bad))) (now (a .counters)) (now (a .timers))
+
+slice-aggregate-cycles-on : tie.Need-slice-aggregate-cycles-on
+slice-aggregate-cycles-on c = search needs
+
+slice-aggregate-cycles-on-2 : tie.Need-slice-aggregate-cycles-on-2
+slice-aggregate-cycles-on-2 c = search needs
+
+slice-aggregate-cycles-on-3 : tie.Need-slice-aggregate-cycles-on-3
+slice-aggregate-cycles-on-3 c = search needs
+
+cycles-on-requires : tie.Need-cycles-on-requires
+cycles-on-requires c κs = search needs
+
+put-words-requires : tie.Need-put-words-requires
+put-words-requires c κs = search needs
+
+same-length : tie.Need-same-length
+same-length c = search needs
+
+returns : tie.Need-returns
+returns c =
+    let calling = c .before .before .before .before .before .before .before .before .before .before in
+    let s = calling .before .before .before .before .before .before .before .before .before .before .before .before .before .before in
+    cycle-left (chart s) (run s) (s .args .new) (s .args .inputs) _ (now (s .args .outputs)) _ _ refl (calling .cycles-on .ensures) (c .put-words .ensures)
+
+pub tolwaziho-cycle-spec : {M : Type 1} → statement M
+tolwaziho-cycle-spec =
+    tie.close
+    (tie.spec
+    slice-aggregate-cycles-on
+    slice-aggregate-cycles-on-2
+    slice-aggregate-cycles-on-3
+    cycles-on-requires
+    put-words-requires
+    same-length
+    returns)

@@ -1,0 +1,356 @@
+// Calls on a run where it lies: its words are lent one by one, and go in and out by value below; its counters and timers are lent on.
+ghost use mathlib.Core.Path.{_≡_};
+ghost use Rattle.chart.specs.Chart.{chartOf};
+ghost use Rattle.run.specs.Apart.{runOf};
+ghost use Rattle.cycle.specs.Cycling.{cycleOn};
+ghost use Rattle.cycle.specs.Starting.{startOn};
+ghost use Rattle.shift.specs.Shifting.{shiftOf};
+ghost use Rattle.engine.specs.Lent.{wordsAt, left, shiftLeft};
+use chart::Chart;
+use run::Words;
+
+fn put_words(
+    words: Words,
+    clock: &mut u32,
+    active: &mut u64,
+    activity: &mut u64,
+    stored: &mut u64,
+    latched: &mut u64,
+    good: &mut u64,
+    bad: &mut u64,
+)
+    ensures { λ _. ⌜ wordsAt (now (clock .exit)) (now (active .exit)) (now (activity .exit)) (now (stored .exit)) (now (latched .exit)) (now (good .exit)) (now (bad .exit)) ≡ words ⌝ }
+{
+    *clock = words.clock;
+    *active = words.active;
+    *activity = words.activity;
+    *stored = words.stored;
+    *latched = words.latched;
+    *good = words.good;
+    *bad = words.bad;
+}
+
+// Start: the number.
+#[no_mangle]
+pub extern "C" fn tolwaziho_start<'a>(
+    steps: usize,
+    actions: usize,
+    transitions: usize,
+    blocks: usize,
+    cases: usize,
+    initial: &'a [u8; 64],
+    output: &'a [u8; 32],
+    value: &'a [i32; 32],
+    sources: &'a [u64; 64],
+    targets: &'a [u64; 64],
+    on: &'a [u64; 64],
+    off: &'a [u64; 64],
+    wait: &'a [u32; 64],
+    blockstep: &'a [u8; 256],
+    blockaction: &'a [u8; 256],
+    qualifier: &'a [u8; 256],
+    duration: &'a [u32; 256],
+    casestep: &'a [u8; 64],
+    signal: &'a [u8; 64],
+    expected: &'a [u8; 64],
+    clock: &mut u32,
+    active: &mut u64,
+    activity: &mut u64,
+    stored: &mut u64,
+    latched: &mut u64,
+    counters: &mut [u32; 64],
+    timers: &mut [u32; 32],
+    good: &mut u64,
+    bad: &mut u64,
+    new: u32,
+    outputs: &mut [i32],
+) -> u8
+    ensures { λ r. ⌜ (r, 0, (wordsAt (now (clock .exit)) (now (active .exit)) (now (activity .exit)) (now (stored .exit)) (now (latched .exit)) (now (good .exit)) (now (bad .exit)), now (counters .exit), now (timers .exit)), now (outputs .exit)) ≡ left (startOn (chartOf steps actions transitions blocks cases (now (initial .entry)) (now (output .entry)) (now (value .entry)) (now (sources .entry)) (now (targets .entry)) (now (on .entry)) (now (off .entry)) (now (wait .entry)) (now (blockstep .entry)) (now (blockaction .entry)) (now (qualifier .entry)) (now (duration .entry)) (now (casestep .entry)) (now (signal .entry)) (now (expected .entry))) new (now (outputs .entry))) ⌝ }
+{
+    let o = cycle::start_on(
+        steps,
+        actions,
+        transitions,
+        blocks,
+        cases,
+        initial,
+        output,
+        value,
+        sources,
+        targets,
+        on,
+        off,
+        wait,
+        blockstep,
+        blockaction,
+        qualifier,
+        duration,
+        casestep,
+        signal,
+        expected,
+        new,
+        outputs,
+    );
+    put_words(o.words, clock, active, activity, stored, latched, good, bad);
+    *counters = [0; 64];
+    *timers = [0; 32];
+    o.code
+}
+
+// One cycle: the number, and the transitions taken.
+#[no_mangle]
+pub extern "C" fn tolwaziho_cycle<'a>(
+    steps: usize,
+    actions: usize,
+    transitions: usize,
+    blocks: usize,
+    cases: usize,
+    initial: &'a [u8; 64],
+    output: &'a [u8; 32],
+    value: &'a [i32; 32],
+    sources: &'a [u64; 64],
+    targets: &'a [u64; 64],
+    on: &'a [u64; 64],
+    off: &'a [u64; 64],
+    wait: &'a [u32; 64],
+    blockstep: &'a [u8; 256],
+    blockaction: &'a [u8; 256],
+    qualifier: &'a [u8; 256],
+    duration: &'a [u32; 256],
+    casestep: &'a [u8; 64],
+    signal: &'a [u8; 64],
+    expected: &'a [u8; 64],
+    clock: &mut u32,
+    active: &mut u64,
+    activity: &mut u64,
+    stored: &mut u64,
+    latched: &mut u64,
+    counters: &mut [u32; 64],
+    timers: &mut [u32; 32],
+    good: &mut u64,
+    bad: &mut u64,
+    new: u32,
+    inputs: u32,
+    outputs: &mut [i32],
+    taken: &mut u64,
+) -> u8
+    ensures { λ r. ⌜ (r, now (taken .exit), (wordsAt (now (clock .exit)) (now (active .exit)) (now (activity .exit)) (now (stored .exit)) (now (latched .exit)) (now (good .exit)) (now (bad .exit)), now (counters .exit), now (timers .exit)), now (outputs .exit)) ≡ left (cycleOn (chartOf steps actions transitions blocks cases (now (initial .entry)) (now (output .entry)) (now (value .entry)) (now (sources .entry)) (now (targets .entry)) (now (on .entry)) (now (off .entry)) (now (wait .entry)) (now (blockstep .entry)) (now (blockaction .entry)) (now (qualifier .entry)) (now (duration .entry)) (now (casestep .entry)) (now (signal .entry)) (now (expected .entry))) (runOf (wordsAt (now (clock .entry)) (now (active .entry)) (now (activity .entry)) (now (stored .entry)) (now (latched .entry)) (now (good .entry)) (now (bad .entry))) (now (counters .entry)) (now (timers .entry))) new inputs (now (outputs .entry))) ⌝ }
+{
+    let words = Words {
+        clock: *clock,
+        active: *active,
+        activity: *activity,
+        stored: *stored,
+        latched: *latched,
+        good: *good,
+        bad: *bad,
+    };
+    let clocks = [new];
+    let given = [inputs];
+    let mut activities = [0u64];
+    let o = cycle::cycles_on(
+        steps,
+        actions,
+        transitions,
+        blocks,
+        cases,
+        initial,
+        output,
+        value,
+        sources,
+        targets,
+        on,
+        off,
+        wait,
+        blockstep,
+        blockaction,
+        qualifier,
+        duration,
+        casestep,
+        signal,
+        expected,
+        words,
+        counters,
+        timers,
+        &clocks,
+        &given,
+        &mut activities,
+        outputs,
+    );
+    put_words(o.words, clock, active, activity, stored, latched, good, bad);
+    *taken = o.taken;
+    o.code
+}
+
+// A shift: the number, and how many cycles were accepted.
+#[no_mangle]
+pub extern "C" fn tolwaziho_shift<'a>(
+    steps: usize,
+    actions: usize,
+    transitions: usize,
+    blocks: usize,
+    cases: usize,
+    initial: &'a [u8; 64],
+    output: &'a [u8; 32],
+    value: &'a [i32; 32],
+    sources: &'a [u64; 64],
+    targets: &'a [u64; 64],
+    on: &'a [u64; 64],
+    off: &'a [u64; 64],
+    wait: &'a [u32; 64],
+    blockstep: &'a [u8; 256],
+    blockaction: &'a [u8; 256],
+    qualifier: &'a [u8; 256],
+    duration: &'a [u32; 256],
+    casestep: &'a [u8; 64],
+    signal: &'a [u8; 64],
+    expected: &'a [u8; 64],
+    clock: &mut u32,
+    active: &mut u64,
+    activity: &mut u64,
+    stored: &mut u64,
+    latched: &mut u64,
+    counters: &mut [u32; 64],
+    timers: &mut [u32; 32],
+    good: &mut u64,
+    bad: &mut u64,
+    clocks: &[u32],
+    inputs: &[u32],
+    activities: &mut [u64],
+    outputs: &mut [i32],
+    accepted: &mut usize,
+) -> u8
+    ensures { λ r. ⌜ (r, now (accepted .exit), (wordsAt (now (clock .exit)) (now (active .exit)) (now (activity .exit)) (now (stored .exit)) (now (latched .exit)) (now (good .exit)) (now (bad .exit)), now (counters .exit), now (timers .exit)), now (activities .exit), now (outputs .exit)) ≡ shiftLeft (shiftOf (chartOf steps actions transitions blocks cases (now (initial .entry)) (now (output .entry)) (now (value .entry)) (now (sources .entry)) (now (targets .entry)) (now (on .entry)) (now (off .entry)) (now (wait .entry)) (now (blockstep .entry)) (now (blockaction .entry)) (now (qualifier .entry)) (now (duration .entry)) (now (casestep .entry)) (now (signal .entry)) (now (expected .entry))) (runOf (wordsAt (now (clock .entry)) (now (active .entry)) (now (activity .entry)) (now (stored .entry)) (now (latched .entry)) (now (good .entry)) (now (bad .entry))) (now (counters .entry)) (now (timers .entry))) (now (clocks .entry)) (now (inputs .entry)) (now (activities .entry)) (now (outputs .entry))) ⌝ }
+{
+    let words = Words {
+        clock: *clock,
+        active: *active,
+        activity: *activity,
+        stored: *stored,
+        latched: *latched,
+        good: *good,
+        bad: *bad,
+    };
+    let uneven = shift::lists_code(clocks.len(), inputs.len(), activities.len());
+    let n = shift::clocks_taken(uneven, clocks.len());
+    let o = cycle::cycles_on(
+        steps,
+        actions,
+        transitions,
+        blocks,
+        cases,
+        initial,
+        output,
+        value,
+        sources,
+        targets,
+        on,
+        off,
+        wait,
+        blockstep,
+        blockaction,
+        qualifier,
+        duration,
+        casestep,
+        signal,
+        expected,
+        words,
+        counters,
+        timers,
+        &clocks[..n],
+        inputs,
+        activities,
+        outputs,
+    );
+    put_words(o.words, clock, active, activity, stored, latched, good, bad);
+    *accepted = o.accepted;
+    fields::or_else(o.code, uneven)
+}
+
+// One cycle by document 01's lent run, which is proved by hand and takes the chart and the run by value: for the tests.
+#[no_mangle]
+pub extern "C" fn tolwaziho_advance<'a>(
+    steps: usize,
+    actions: usize,
+    transitions: usize,
+    blocks: usize,
+    cases: usize,
+    initial: &'a [u8; 64],
+    output: &'a [u8; 32],
+    value: &'a [i32; 32],
+    sources: &'a [u64; 64],
+    targets: &'a [u64; 64],
+    on: &'a [u64; 64],
+    off: &'a [u64; 64],
+    wait: &'a [u32; 64],
+    blockstep: &'a [u8; 256],
+    blockaction: &'a [u8; 256],
+    qualifier: &'a [u8; 256],
+    duration: &'a [u32; 256],
+    casestep: &'a [u8; 64],
+    signal: &'a [u8; 64],
+    expected: &'a [u8; 64],
+    clock: &mut u32,
+    active: &mut u64,
+    activity: &mut u64,
+    stored: &mut u64,
+    latched: &mut u64,
+    counters: &mut [u32; 64],
+    timers: &mut [u32; 32],
+    good: &mut u64,
+    bad: &mut u64,
+    new: u32,
+    inputs: u32,
+    outputs: &mut [i32],
+    taken: &mut u64,
+) -> u8
+    ensures { λ r. ⌜ (r, now (taken .exit), (wordsAt (now (clock .exit)) (now (active .exit)) (now (activity .exit)) (now (stored .exit)) (now (latched .exit)) (now (good .exit)) (now (bad .exit)), now (counters .exit), now (timers .exit)), now (outputs .exit)) ≡ left (cycleOn (chartOf steps actions transitions blocks cases (now (initial .entry)) (now (output .entry)) (now (value .entry)) (now (sources .entry)) (now (targets .entry)) (now (on .entry)) (now (off .entry)) (now (wait .entry)) (now (blockstep .entry)) (now (blockaction .entry)) (now (qualifier .entry)) (now (duration .entry)) (now (casestep .entry)) (now (signal .entry)) (now (expected .entry))) (runOf (wordsAt (now (clock .entry)) (now (active .entry)) (now (activity .entry)) (now (stored .entry)) (now (latched .entry)) (now (good .entry)) (now (bad .entry))) (now (counters .entry)) (now (timers .entry))) new inputs (now (outputs .entry))) ⌝ }
+{
+    let words = Words {
+        clock: *clock,
+        active: *active,
+        activity: *activity,
+        stored: *stored,
+        latched: *latched,
+        good: *good,
+        bad: *bad,
+    };
+    let chart = Chart {
+        steps,
+        actions,
+        transitions,
+        blocks,
+        cases,
+        initial: *initial,
+        output: *output,
+        value: *value,
+        sources: *sources,
+        targets: *targets,
+        on: *on,
+        off: *off,
+        wait: *wait,
+        blockstep: *blockstep,
+        blockaction: *blockaction,
+        qualifier: *qualifier,
+        duration: *duration,
+        casestep: *casestep,
+        signal: *signal,
+        expected: *expected,
+    };
+    let o = lent::lent_cycle(
+        chart,
+        run::run_of(words, *counters, *timers),
+        new,
+        inputs,
+        outputs,
+    );
+    let run = o.run;
+    let after = run::words_of(run);
+    let counted = run.counters;
+    let timed = run.timers;
+    put_words(after, clock, active, activity, stored, latched, good, bad);
+    *counters = run::counts_of(counted);
+    *timers = run::times_of(timed);
+    *taken = o.taken;
+    o.code
+}
