@@ -1,0 +1,95 @@
+/* The calls of include/tolwaziho.h: each hands a struct's fields to the proved entry of its name, by their addresses. Nothing is copied, tested or
+   decided here. */
+#include "tolwaziho.h"
+
+#include "entries.h"
+
+/* A chart's fields as the macro CHART of entries.h has them. */
+#define TABLES_OF(c) \
+	(c)->initial, (c)->output, (c)->value, (c)->sources, (c)->targets, (c)->on, (c)->off, (c)->wait, (c)->blockstep, (c)->blockaction, \
+	(c)->qualifier, (c)->duration, (c)->casestep, (c)->signal, (c)->expected
+#define CHART_OF(c) (c)->steps, (c)->actions, (c)->transitions, (c)->blocks, (c)->cases, TABLES_OF(c)
+
+/* A run's as RUN has them. */
+#define RUN_OF(r) \
+	&(r)->clock, &(r)->active, &(r)->activity, &(r)->stored, &(r)->latched, (r)->counters, (r)->timers, &(r)->good, &(r)->bad
+
+enum tw_code tw_read(const uint8_t *bytes, size_t size, struct tw_chart *c, size_t *place)
+{
+	return tolwaziho_read(bytes, size, &c->steps, &c->actions, &c->transitions, &c->blocks, &c->cases, TABLES_OF(c), place);
+}
+
+enum tw_code tw_test(const struct tw_chart *chart)
+{
+	return tolwaziho_test(CHART_OF(chart));
+}
+
+enum tw_code tw_write(const struct tw_chart *chart, uint8_t *bytes, size_t lent, size_t *length)
+{
+	return tolwaziho_write(CHART_OF(chart), bytes, lent, length);
+}
+
+enum tw_code tw_start(const struct tw_chart *chart, struct tw_run *run, uint32_t clock, int32_t *outputs, size_t lent)
+{
+	return tolwaziho_start(CHART_OF(chart), RUN_OF(run), clock, outputs, lent);
+}
+
+enum tw_code tw_cycle(const struct tw_chart *chart, struct tw_run *run, uint32_t clock, uint32_t inputs, int32_t *outputs, size_t lent,
+	uint64_t *taken)
+{
+	return tolwaziho_cycle(CHART_OF(chart), RUN_OF(run), clock, inputs, outputs, lent, taken);
+}
+
+enum tw_code tw_shift(const struct tw_chart *chart, struct tw_run *run, const uint32_t *clocks, size_t nclocks, const uint32_t *inputs,
+	size_t ninputs, uint64_t *activities, size_t nactivities, int32_t *outputs, size_t lent, size_t *accepted)
+{
+	return tolwaziho_shift(CHART_OF(chart), RUN_OF(run), clocks, nclocks, inputs, ninputs, activities, nactivities, outputs, lent, accepted);
+}
+
+enum tw_code tw_tally(const struct tw_chart *chart, const struct tw_run *r, struct tw_tallied *tallied)
+{
+	return tolwaziho_tally(CHART_OF(chart), r->clock, r->active, r->activity, r->stored, r->latched, r->counters, r->timers, r->good, r->bad,
+		&tallied->passed, &tallied->failed, &tallied->notrun);
+}
+
+enum tw_code tw_weigh(const struct tw_chart *chart, const uint16_t *weights, size_t nweights, struct tw_weighed *weighed)
+{
+	return tolwaziho_weigh(CHART_OF(chart), weights, nweights, &weighed->transition, &weighed->total);
+}
+
+enum tw_code tw_next_record(const uint8_t *bytes, size_t size, struct tw_reader *reader, struct tw_record *record)
+{
+	return tolwaziho_next_record(bytes, size, &reader->at, &reader->before, &record->kind, &record->place, &record->length);
+}
+
+enum tw_code tw_advance(const struct tw_chart *chart, struct tw_run *run, uint32_t clock, uint32_t inputs, int32_t *outputs, size_t lent,
+	uint64_t *taken)
+{
+	return tolwaziho_advance(CHART_OF(chart), RUN_OF(run), clock, inputs, outputs, lent, taken);
+}
+
+const char *tw_name(enum tw_code code)
+{
+	switch (code) {
+	case TW_ACCEPTED: return "accepted";
+	case TW_CUT: return "cut";
+	case TW_BAD_KIND: return "bad kind";
+	case TW_BAD_LENGTH: return "bad length";
+	case TW_TOO_MANY: return "too many";
+	case TW_BAD_FIELD: return "bad field";
+	case TW_BAD_STEPS: return "bad steps";
+	case TW_BAD_SIGNALS: return "bad signals";
+	case TW_TIMED_TWICE: return "timed twice";
+	case TW_NO_INITIAL: return "no initial";
+	case TW_SURPLUS: return "surplus";
+	case TW_TOO_LATE: return "too late";
+	case TW_OTHER_RUN: return "other run";
+	case TW_WRONG_WEIGHTS: return "wrong weights";
+	case TW_UNBALANCED: return "unbalanced";
+	case TW_FEW_OUTPUTS: return "few outputs";
+	case TW_BAD_TRACE: return "bad trace";
+	case TW_TOO_FEW_BYTES: return "too few bytes";
+	case TW_UNEVEN_LISTS: return "uneven lists";
+	}
+	return "unknown";
+}
