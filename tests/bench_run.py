@@ -1,9 +1,9 @@
 #!/usr/bin/env python3
 """The program bench_run, run on charts and traces and compared with what document 01 says it prints.
 
-  tests/bench_run.py           write what `rt check` runs it on: crates/bench_run/stdin, stdout and data/chart.bin
-  tests/bench_run.py --check   say whether they are what this file says
-  tests/bench_run.py --run     run the built program on every case
+  tests/bench_run.py                   write what `rt check` runs it on: crates/bench_run/stdin, stdout and data/chart.bin
+  tests/bench_run.py --check           say whether they are what this file says
+  tests/bench_run.py --run [PROGRAM]   run the built program on every case, or another by its path from the root, such as build/bench_run
 
 Short outputs are written out by hand. The long ones come from the plain model of start and cycle in run_cycles.py; nothing here
 gets an expected line from the engine.
@@ -140,26 +140,31 @@ def text(lines):
     return "".join(line + "\n" for line in lines).encode()
 
 
-def run(folder, trace, output=subprocess.PIPE, root=ROOT, user=None):
-    command = [root / "tools" / "run", "bench_run"]
-    return subprocess.run(command, cwd=folder, input=trace, stdout=output, stderr=subprocess.PIPE, timeout=60, check=False, user=user)
+def command(program, root=ROOT):
+    """tools/run takes a name or a path."""
+    return [root / "tools" / "run", root / program if "/" in program else program]
 
 
-def run_case(name, chart, trace, lines):
+def run(program, folder, trace, output=subprocess.PIPE, root=ROOT, user=None):
+    words = command(program, root)
+    return subprocess.run(words, cwd=folder, input=trace, stdout=output, stderr=subprocess.PIPE, timeout=60, check=False, user=user)
+
+
+def run_case(program, name, chart, trace, lines):
     with tempfile.TemporaryDirectory() as folder:
         if chart is not None:
             (Path(folder) / "chart.bin").write_bytes(chart)
-        done = run(folder, trace)
+        done = run(program, folder, trace)
     expected = text(lines)
     if done.stdout != expected or done.stderr or done.returncode != 0:
-        sys.exit(f"bench_run, {name}: status {done.returncode}, printed {done.stdout[-400:]!r} {done.stderr!r}, expected {expected[-400:]!r}")
+        sys.exit(f"{program}, {name}: status {done.returncode}, printed {done.stdout[-400:]!r} {done.stderr!r}, expected {expected[-400:]!r}")
 
 
-def run_unreadable():
+def run_unreadable(program):
     """A chart.bin that is there and that its reader may not read. Root may read every file, so there the program runs as nobody, from a copy."""
     with tempfile.TemporaryDirectory() as folder:
         os.chmod(folder, 0o755)
-        for part in ["tools/run", "target/bin/bench_run"]:
+        for part in ["tools/run", program if "/" in program else f"target/bin/{program}"]:
             (Path(folder) / part).parent.mkdir(parents=True)
             shutil.copy(ROOT / part, Path(folder) / part)
         chart = Path(folder) / "chart.bin"
@@ -168,12 +173,12 @@ def run_unreadable():
             chart.unlink(missing_ok=True)
             chart.write_bytes(CHART_A)
             chart.chmod(mode)
-            done = run(folder, TRACE_A, root=Path(folder), user=user)
+            done = run(program, folder, TRACE_A, root=Path(folder), user=user)
             assert (done.stdout, done.returncode) == (expected, 0), (mode, done.stdout, done.stderr)
     return 2
 
 
-def run_odd():
+def run_odd(program):
     """Files that are far too large, a chart.bin that can't be opened or read, an output that takes nothing: a clear end in each."""
     odd = 0
     for make, trace, expected in [
@@ -184,23 +189,24 @@ def run_odd():
     ]:
         with tempfile.TemporaryDirectory() as folder:
             make(Path(folder) / "chart.bin")
-            done = run(folder, trace)
+            done = run(program, folder, trace)
             assert (done.stdout, done.returncode) == (expected, 0), (trace[:8], done.stdout[-200:])
         odd += 1
     with tempfile.TemporaryDirectory() as folder:
         (Path(folder) / "chart.bin").write_bytes(CHART_A)
         with open("/dev/full", "wb") as full:
-            assert run(folder, FULL, full).returncode == 0, "a full device"
-        closed = subprocess.run(["sh", "-c", 'exec "$0" bench_run >&-', ROOT / "tools" / "run"], cwd=folder, input=FULL, timeout=60, check=False)
+            assert run(program, folder, FULL, full).returncode == 0, "a full device"
+        closed = subprocess.run(["sh", "-c", 'exec "$0" "$@" >&-', *command(program)], cwd=folder, input=FULL, timeout=60, check=False)
         assert closed.returncode == 0, "a closed output"
     return odd + 2
 
 
 if __name__ == "__main__":
     if "--run" in sys.argv[1:]:
+        program = (sys.argv[2:] or ["bench_run"])[0]
         for shown in CASES:
-            run_case(*shown)
-        print(f"bench_run: {len(CASES) + run_odd() + run_unreadable()} runs")
+            run_case(program, *shown)
+        print(f"{program}: {len(CASES) + run_odd(program) + run_unreadable(program)} runs")
     else:
         store({
             "crates/bench_run/data/chart.bin": CHART_A,
