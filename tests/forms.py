@@ -1,7 +1,7 @@
 #!/usr/bin/env python3
-"""The stored cases of the programs list_records and lent_cycles: their input, and the output that document 01 asks for, by hand.
+"""The stored cases of `driver list_records` and `driver lent_cycles`: their input, and the output that document 01 asks for, by hand.
 
-  tests/forms.py           write stdin and stdout of both crates
+  tests/forms.py           write their .in and .out in tests/stored
   tests/forms.py --check   say whether they are what this file says
 """
 import struct
@@ -25,9 +25,9 @@ def text(lines):
 if __name__ == "__main__":
     calls = b"".join(struct.pack("<II", *call) for call in CALLS)
     store({
-        "crates/list_records/stdin": CHART_A,
-        "crates/list_records/stdout": text(RECORDS),
-        "crates/lent_cycles/stdin": struct.pack("<H", len(CHART_A)) + CHART_A + struct.pack("<IH", 1000, len(CALLS)) + calls,
-        "crates/lent_cycles/stdout": text(LINES),
+        "tests/stored/list_records.in": CHART_A,
+        "tests/stored/list_records.out": text(RECORDS),
+        "tests/stored/lent_cycles.in": struct.pack("<H", len(CHART_A)) + CHART_A + struct.pack("<IH", 1000, len(CALLS)) + calls,
+        "tests/stored/lent_cycles.out": text(LINES),
     }, "tests/forms.py")
     print("list_records, lent_cycles: 2 stored runs")

@@ -1,7 +1,7 @@
 #!/usr/bin/env python3
-"""The stored cases of the program held_calls: its input, and the output that document 01 asks for.
+"""The stored cases of `driver held_calls`: its input, and the output that document 01 asks for.
 
-  tests/held_calls.py           write crates/held_calls/stdin and stdout
+  tests/held_calls.py           write tests/stored/held_calls.in and held_calls.out
   tests/held_calls.py --check   say whether they are what this file says
 
 Each case is an image of a chart, an image of a run and a call, and its line. The lines are derived from documents 01 and 02 by hand;
@@ -266,7 +266,7 @@ shift(15, [], [], lent=0)
 if __name__ == "__main__":
     assert len(CASES[0][0]) == 4552 + 436 + 11
     store({
-        "crates/held_calls/stdin": b"".join(case for case, _ in CASES),
-        "crates/held_calls/stdout": "".join(text + "\n" for _, text in CASES).encode(),
+        "tests/stored/held_calls.in": b"".join(case for case, _ in CASES),
+        "tests/stored/held_calls.out": "".join(text + "\n" for _, text in CASES).encode(),
     }, "tests/held_calls.py")
     print(f"held_calls: {len(CASES)} cases")

@@ -1,7 +1,7 @@
 #!/usr/bin/env python3
-"""The stored cases of the program read_charts: its input, and the output that document 01 asks for.
+"""The stored cases of `driver read_charts`: its input, and the output that document 01 asks for.
 
-  tests/read_charts.py           write crates/read_charts/stdin and stdout
+  tests/read_charts.py           write tests/stored/read_charts.in and read_charts.out
   tests/read_charts.py --check   say whether they are what this file says
 
 Each case is a file and its line: number, place, then the counts of steps, actions, transitions, blocks and cases.
@@ -209,8 +209,8 @@ for q in (L, D, SD, DS, SL):
     CASES.append((f"timed {q}, a longer duration", ACTED + block(0, 0, q, DAY + 1) + END, "5 14 0 0 0 0 0"))
 
 FILES = {
-    "crates/read_charts/stdin": b"".join(struct.pack("<H", len(f)) + f for _, f, _ in CASES),
-    "crates/read_charts/stdout": "".join(line + "\n" for _, _, line in CASES).encode(),
+    "tests/stored/read_charts.in": b"".join(struct.pack("<H", len(f)) + f for _, f, _ in CASES),
+    "tests/stored/read_charts.out": "".join(line + "\n" for _, _, line in CASES).encode(),
 }
 
 

@@ -1,7 +1,7 @@
 #!/usr/bin/env python3
-"""The stored cases of the program run_cycles: its input, and the output that document 01 asks for.
+"""The stored cases of `driver run_cycles`: its input, and the output that document 01 asks for.
 
-  tests/run_cycles.py           write crates/run_cycles/stdin and stdout
+  tests/run_cycles.py           write tests/stored/run_cycles.in and run_cycles.out
   tests/run_cycles.py --check   say whether they are what this file says
 
 The lines come from a plain model of document 01's start and cycle, with P as request (ii) of document 02 has it; nothing here
@@ -537,11 +537,11 @@ def request(data, clock, calls):
 if __name__ == "__main__":
     lines = [line(answer) for shown in CASES for answer in answers_of(*shown)]
     files = {
-        "crates/run_cycles/stdin": b"".join(request(data, clock, calls) for _, data, clock, calls, _ in CASES),
-        "crates/run_cycles/stdout": "".join(text + "\n" for text in lines).encode(),
+        "tests/stored/run_cycles.in": b"".join(request(data, clock, calls) for _, data, clock, calls, _ in CASES),
+        "tests/stored/run_cycles.out": "".join(text + "\n" for text in lines).encode(),
     }
     # the two forms by hand: chart A's input, and its calls at 1010 and 1509
-    assert files["crates/run_cycles/stdin"].startswith(
+    assert files["tests/stored/run_cycles.in"].startswith(
         b"\x98\0" + CHART_A + b"\xe8\3\0\0" + b"\2\0" + b"\xf2\3\0\0\1\0\0\0" + b"\xe6\5\0\0\2\0\0\0")
     assert lines[1] == "0 1 1010 2 3 2 0 0 0 c t o 120" + " 0" * 31
     assert lines[5] == "0 0 1509 2 3 2 0 0 0 c 1:499 t o 120" + " 0" * 31

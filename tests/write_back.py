@@ -1,7 +1,7 @@
 #!/usr/bin/env python3
-"""The stored cases of the program write_back: its input, and the output that documents 01 and 02 ask for.
+"""The stored cases of `driver write_back`: its input, and the output that documents 01 and 02 ask for.
 
-  tests/write_back.py           write crates/write_back/stdin and stdout
+  tests/write_back.py           write tests/stored/write_back.in and write_back.out
   tests/write_back.py --check   say whether they are what this file says
 
 Each case is a file of read_charts, whose number is derived by hand there, and its line: that number where the file is refused;
@@ -21,7 +21,7 @@ def line(file, read):
 
 if __name__ == "__main__":
     store({
-        "crates/write_back/stdin": b"".join(struct.pack("<H", len(file)) + file for _, file, _ in CASES),
-        "crates/write_back/stdout": "".join(line(file, read) for _, file, read in CASES).encode(),
+        "tests/stored/write_back.in": b"".join(struct.pack("<H", len(file)) + file for _, file, _ in CASES),
+        "tests/stored/write_back.out": "".join(line(file, read) for _, file, read in CASES).encode(),
     }, "tests/write_back.py")
     print(f"write_back: {len(CASES)} cases")

@@ -1,0 +1,396 @@
+/* The tests' way into the library: cases from standard input go to its calls, and all that a call answers becomes a line.
+
+     driver read_charts    a file, read: number, place, counts
+     driver write_back     a file, read and written back: the reading's number if refused, else the writing's, the length, whether it is the same
+     driver list_records   a single file: each record, the end or the refusal, and the last answer asked for again
+     driver run_cycles     a file, a start and cycles: for each call its whole answer
+     driver lent_cycles    the same by tw_advance: number, taken, active, activity, clock
+     driver held_calls     any chart, any run and a call: its whole answer and all that was lent; tests/held_calls.py has the form
+
+   A file stands behind its length in two bytes, but for list_records, whose input is the file. A start is its clock in four bytes and the number of
+   cycles in two, a cycle its clock and its inputs in four each. There are as many cases as the input has; it may end within one, which then
+   is left out. Numbers are little-endian, as on the machines that this runs on. */
+#include <stdbool.h>
+#include <stdint.h>
+#include <stdio.h>
+#include <stdlib.h>
+#include <string.h>
+#include <tolwaziho.h>
+
+enum { LENT = 256, LIST = TW_SHIFT + 1 };
+
+static uint8_t file[65536], written[65536];
+static struct tw_chart chart;
+static struct tw_run run;
+static int32_t outputs[LENT];
+
+/* Input */
+
+/* Whether there are so many bytes more. */
+static bool take(void *to, size_t size)
+{
+	return fread(to, 1, size, stdin) == size;
+}
+
+static bool take_file(uint16_t *size)
+{
+	return take(size, sizeof *size) && take(file, *size);
+}
+
+/* Lines: words with a space between them, gathered in a buffer that is written as it fills */
+
+static char out[1 << 20];
+static size_t used;
+static bool begun;
+
+static void write_out(void)
+{
+	if (fwrite(out, 1, used, stdout) != used || fflush(stdout))
+		exit(1);
+	used = 0;
+}
+
+static void put(char c)
+{
+	if (used == sizeof out)
+		write_out();
+	out[used++] = c;
+}
+
+static void put_number(uint64_t n)
+{
+	char digits[20];
+	size_t k = sizeof digits;
+	do
+		digits[--k] = (char)('0' + n % 10);
+	while (n /= 10);
+	while (k < sizeof digits)
+		put(digits[k++]);
+}
+
+static void part(void)
+{
+	if (begun)
+		put(' ');
+	begun = true;
+}
+
+static void number(uint64_t n)
+{
+	part();
+	put_number(n);
+}
+
+static void signed_number(int64_t n)
+{
+	part();
+	if (n < 0)
+		put('-');
+	put_number((uint64_t)(n < 0 ? -n : n));
+}
+
+static void word(const char *s)
+{
+	part();
+	while (*s)
+		put(*s++);
+}
+
+static void end_line(void)
+{
+	put('\n');
+	begun = false;
+}
+
+/* Charts. A mode's function takes one case; false where there is none. */
+
+static bool read_charts(void)
+{
+	uint16_t size;
+	size_t place;
+	if (!take_file(&size))
+		return false;
+	number(tw_read(file, size, &chart, &place));
+	number(place);
+	number(chart.steps);
+	number(chart.actions);
+	number(chart.transitions);
+	number(chart.blocks);
+	number(chart.cases);
+	end_line();
+	return true;
+}
+
+/* As many bytes are lent as the file has. */
+static bool write_back(void)
+{
+	uint16_t size;
+	size_t place, length;
+	if (!take_file(&size))
+		return false;
+	enum tw_code code = tw_read(file, size, &chart, &place);
+	if (code) {
+		number(code);
+	} else {
+		memset(written, 165, size);
+		number(tw_write(&chart, written, size, &length));
+		number(length);
+		word(memcmp(written, file, size) ? "differs" : "same");
+	}
+	end_line();
+	return true;
+}
+
+/* Whether it was a record, after which there may be more. */
+static bool list_record(size_t size, struct tw_reader *reader)
+{
+	struct tw_record record;
+	enum tw_code code = tw_next_record(file, size, reader, &record);
+	if (code) {
+		word("refused");
+		number(code);
+		number(record.place);
+	} else if (record.kind) {
+		number(record.kind);
+		number(record.place);
+		number(record.length);
+	} else {
+		word("end");
+	}
+	end_line();
+	return !code && record.kind;
+}
+
+static bool list_records(void)
+{
+	struct tw_reader reader = { 0, 0 };
+	size_t size = fread(file, 1, sizeof file, stdin);
+	while (list_record(size, &reader))
+		;
+	list_record(size, &reader);
+	return false;
+}
+
+/* Runs */
+
+static void numbers(const uint32_t *n, size_t many)
+{
+	for (size_t k = 0; k < many; k++)
+		number(n[k]);
+}
+
+/* k:n for those that are not 0. */
+static void some_numbers(const uint32_t *n, size_t many)
+{
+	for (size_t k = 0; k < many; k++) {
+		if (n[k]) {
+			number(k);
+			put(':');
+			put_number(n[k]);
+		}
+	}
+}
+
+static void lent_outputs(size_t lent)
+{
+	for (size_t k = 0; k < lent; k++)
+		signed_number(outputs[k]);
+}
+
+static void run_words(void)
+{
+	number(run.clock);
+	number(run.active);
+	number(run.activity);
+	number(run.stored);
+	number(run.latched);
+	number(run.good);
+	number(run.bad);
+}
+
+static void run_cycles_line(enum tw_code code, uint64_t taken)
+{
+	number(code);
+	number(taken);
+	run_words();
+	word("c");
+	some_numbers(run.counters, TW_STEPS);
+	word("t");
+	some_numbers(run.timers, TW_ACTIONS);
+	word("o");
+	lent_outputs(TW_OUTPUTS);
+	end_line();
+}
+
+static void lent_cycles_line(enum tw_code code, uint64_t taken)
+{
+	number(code);
+	number(taken);
+	number(run.active);
+	number(run.activity);
+	number(run.clock);
+	end_line();
+}
+
+typedef enum tw_code cycle_call(const struct tw_chart *, struct tw_run *, uint32_t, uint32_t, int32_t *, size_t, uint64_t *);
+typedef void line_of_call(enum tw_code code, uint64_t taken);
+
+static bool one_run(cycle_call *cycle, line_of_call *line)
+{
+	uint16_t size, cycles;
+	uint32_t clock, inputs;
+	size_t place;
+	if (!take_file(&size) || !take(&clock, sizeof clock) || !take(&cycles, sizeof cycles))
+		return false;
+	tw_read(file, size, &chart, &place);
+	memset(outputs, 0, sizeof outputs);
+	line(tw_start(&chart, &run, clock, outputs, TW_OUTPUTS), 0);
+	for (; cycles > 0; cycles--) {
+		uint64_t taken;
+		if (!take(&clock, sizeof clock) || !take(&inputs, sizeof inputs))
+			return false;
+		enum tw_code code = cycle(&chart, &run, clock, inputs, outputs, TW_OUTPUTS, &taken);
+		line(code, taken);
+	}
+	return true;
+}
+
+static bool run_cycles(void)
+{
+	return one_run(tw_cycle, run_cycles_line);
+}
+
+static bool lent_cycles(void)
+{
+	return one_run(tw_advance, lent_cycles_line);
+}
+
+/* Held charts and runs. All that is lent to a call has values of its own before, so that what it leaves untouched is seen. */
+
+_Static_assert(sizeof chart == 4552, "a chart's image is the struct as it lies");
+
+static bool take_run(void)
+{
+	return take(&run.clock, sizeof run.clock) && take(&run.active, sizeof run.active) && take(&run.activity, sizeof run.activity)
+		&& take(&run.stored, sizeof run.stored) && take(&run.latched, sizeof run.latched)
+		&& take(run.counters, sizeof run.counters) && take(run.timers, sizeof run.timers)
+		&& take(&run.good, sizeof run.good) && take(&run.bad, sizeof run.bad);
+}
+
+/* Of a start or a cycle the transitions taken, of a shift how many cycles were accepted. */
+static void held_run(enum tw_code code, uint64_t taken_or_accepted, size_t lent)
+{
+	number(code);
+	number(taken_or_accepted);
+	run_words();
+	numbers(run.counters, TW_STEPS);
+	numbers(run.timers, TW_ACTIONS);
+	lent_outputs(lent);
+}
+
+static void held_cycle(uint32_t clock, uint32_t inputs, size_t lent)
+{
+	uint64_t taken;
+	enum tw_code code = tw_cycle(&chart, &run, clock, inputs, outputs, lent, &taken);
+	held_run(code, taken, lent);
+}
+
+static void held_tally(void)
+{
+	struct tw_tallied tallied;
+	number(tw_tally(&chart, &run, &tallied));
+	number(tallied.passed);
+	number(tallied.failed);
+	number(tallied.notrun);
+}
+
+static void held_weighing(const uint16_t *weights, size_t many)
+{
+	struct tw_weighed weighed;
+	number(tw_weigh(&chart, weights, many, &weighed));
+	number(weighed.transition);
+	number(weighed.total);
+}
+
+static void held_writing(size_t lent)
+{
+	size_t length;
+	for (size_t k = 0; k < lent; k++)
+		written[k] = (uint8_t)(k % 251);
+	number(tw_write(&chart, written, lent, &length));
+	number(length);
+	for (size_t k = 0; k < lent; k++)
+		number(written[k]);
+}
+
+static bool held_shift(size_t nclocks, size_t ninputs, size_t nactivities, size_t lent)
+{
+	static uint32_t clocks[LIST], inputs[LIST];
+	static uint64_t activities[LIST];
+	size_t accepted;
+	if (!take(clocks, nclocks * sizeof *clocks) || !take(inputs, ninputs * sizeof *inputs))
+		return false;
+	for (size_t k = 0; k < nactivities; k++)
+		activities[k] = (UINT64_C(1) << 32) + k;
+	enum tw_code code = tw_shift(&chart, &run, clocks, nclocks, inputs, ninputs, activities, nactivities, outputs, lent, &accepted);
+	held_run(code, accepted, lent);
+	for (size_t k = 0; k < nactivities; k++)
+		number(activities[k]);
+	end_line();
+	return true;
+}
+
+/* A list's length, no more than there is room for. */
+static size_t list_length(uint32_t n)
+{
+	return n < LIST ? n : LIST;
+}
+
+static bool held_calls(void)
+{
+	enum { START, CYCLE, TALLY, WEIGHING, WRITING, SHIFT };
+	uint8_t kind, lent, nweights;
+	uint32_t clock, inputs;
+	uint16_t weights[256];
+	if (!take(&chart, sizeof chart) || !take_run() || !take(&kind, sizeof kind) || !take(&clock, sizeof clock)
+		|| !take(&inputs, sizeof inputs) || !take(&lent, sizeof lent) || !take(&nweights, sizeof nweights))
+		return false;
+	for (int32_t k = 0; k < LENT; k++)
+		outputs[k] = 1000 + k;
+	if (kind == SHIFT)
+		return held_shift(list_length(clock & 0xffff), list_length(clock >> 16), list_length(inputs & 0xffff), lent);
+	if (!take(weights, nweights * sizeof *weights))
+		return false;
+	switch (kind) {
+	case START: held_run(tw_start(&chart, &run, clock, outputs, lent), 0, lent); break;
+	case CYCLE: held_cycle(clock, inputs, lent); break;
+	case TALLY: held_tally(); break;
+	case WRITING: held_writing(clock & 0xffff); break;
+	default: held_weighing(weights, nweights);
+	}
+	end_line();
+	return true;
+}
+
+int main(int argc, char **argv)
+{
+	static const struct {
+		const char *name;
+		bool (*one_case)(void);
+	} modes[] = {
+		{ "read_charts", read_charts }, { "write_back", write_back }, { "list_records", list_records }, { "run_cycles", run_cycles },
+		{ "lent_cycles", lent_cycles }, { "held_calls", held_calls },
+	};
+	static char in[1 << 20];
+	setvbuf(stdin, in, _IOFBF, sizeof in);
+	for (size_t i = 0; argc == 2 && i < sizeof modes / sizeof *modes; i++) {
+		if (!strcmp(argv[1], modes[i].name)) {
+			while (modes[i].one_case())
+				;
+			write_out();
+			return 0;
+		}
+	}
+	fprintf(stderr, "usage: see the head of driver.c\n");
+	return 2;
+}
