@@ -7,7 +7,7 @@
 #define BIT(k) (UINT64_C(1) << (k))
 
 /* Qualifiers L, D, SD, DS and SL, as bits. */
-#define TIMED (1u << L | 1u << D | 1u << SD | 1u << DS | 1u << SL)
+#define TIMED (1u << TW_L | 1u << TW_D | 1u << TW_SD | 1u << TW_DS | 1u << TW_SL)
 
 /* The numbers from n on. */
 static inline uint64_t from(size_t n)
@@ -42,21 +42,21 @@ static inline uint64_t u64_at(const uint8_t *b)
 	return x;
 }
 
-static inline unsigned transition_code(uint64_t nostep, uint64_t nosignal, uint64_t sources, uint64_t targets, uint64_t on, uint64_t off, uint32_t wait)
+static inline enum tw_code transition_code(uint64_t nostep, uint64_t nosignal, uint64_t sources, uint64_t targets, uint64_t on, uint64_t off, uint32_t wait)
 {
-	if (((sources | targets) & nostep) | ((on | off) & nosignal) | (wait > LONGEST))
-		return BAD_FIELD;
+	if (((sources | targets) & nostep) | ((on | off) & nosignal) | (wait > TW_LONGEST))
+		return TW_BAD_FIELD;
 	if (sources == 0 || targets == 0 || (sources & targets))
-		return BAD_STEPS;
+		return TW_BAD_STEPS;
 	if (on & off)
-		return BAD_SIGNALS;
-	return ACCEPTED;
+		return TW_BAD_SIGNALS;
+	return TW_ACCEPTED;
 }
 
 static inline unsigned block_bad(size_t steps, size_t actions, uint8_t step, uint8_t action, uint8_t qualifier, uint32_t duration)
 {
 	unsigned timed = qualifier < 32 && (TIMED >> qualifier & 1);
-	return (step >= steps) | (action >= actions) | (qualifier > P0) | (duration > (timed ? LONGEST : 0));
+	return (step >= steps) | (action >= actions) | (qualifier > TW_P0) | (duration > (timed ? TW_LONGEST : 0));
 }
 
 static inline unsigned case_bad(size_t steps, size_t actions, uint8_t step, uint8_t signal, uint8_t expected)
@@ -64,17 +64,17 @@ static inline unsigned case_bad(size_t steps, size_t actions, uint8_t step, uint
 	return (step >= steps) | (signal >= 32 + actions) | (expected > 1);
 }
 
-static inline int some_initial(const struct chart *c)
+static inline int some_initial(const struct tw_chart *c)
 {
 	return c->steps != 0 && memchr(c->initial, 1, c->steps) != NULL;
 }
 
 /* What is tested after the records of a file: no initial step, two timed blocks for one action. */
-static unsigned closing_code(const struct chart *c)
+static enum tw_code closing_code(const struct tw_chart *c)
 {
 	uint32_t seen = 0, twice = 0;
 	if (!some_initial(c))
-		return NO_INITIAL;
+		return TW_NO_INITIAL;
 	for (size_t i = 0; i < c->blocks; i++) {
 		if (TIMED >> c->qualifier[i] & 1) {
 			uint32_t bit = UINT32_C(1) << c->blockaction[i];
@@ -82,12 +82,12 @@ static unsigned closing_code(const struct chart *c)
 			seen |= bit;
 		}
 	}
-	return twice ? TIMED_TWICE : ACCEPTED;
+	return twice ? TW_TIMED_TWICE : TW_ACCEPTED;
 }
 
 static const uint8_t LENGTHS[6] = { 0, 1, 5, 36, 7, 3 };
 
-static unsigned read_records(const uint8_t *bytes, size_t size, struct chart *c, size_t *place)
+static enum tw_code read_records(const uint8_t *bytes, size_t size, struct tw_chart *c, size_t *place)
 {
 	size_t at = 0;
 	uint32_t before = 0;
@@ -95,41 +95,41 @@ static unsigned read_records(const uint8_t *bytes, size_t size, struct chart *c,
 	for (;;) {
 		*place = at;
 		if (size - at < 4)
-			return CUT;
+			return TW_CUT;
 		uint32_t length = u16_at(bytes + at), kind = u16_at(bytes + at + 2);
 		if (kind > 5 || (kind != 0 && kind < before))
-			return BAD_KIND;
+			return TW_BAD_KIND;
 		if (length != LENGTHS[kind])
-			return BAD_LENGTH;
+			return TW_BAD_LENGTH;
 		if (size - at - 4 < length)
-			return CUT;
+			return TW_CUT;
 		const uint8_t *b = bytes + at + 4;
 		size_t i;
-		unsigned code;
+		enum tw_code code;
 		switch (kind) {
 		case 1:
 			i = c->steps;
-			if (i == STEPS)
-				return TOO_MANY;
+			if (i == TW_STEPS)
+				return TW_TOO_MANY;
 			if (b[0] > 1)
-				return BAD_FIELD;
+				return TW_BAD_FIELD;
 			c->initial[i] = b[0];
 			c->steps = i + 1;
 			break;
 		case 2:
 			i = c->actions;
-			if (i == ACTIONS)
-				return TOO_MANY;
-			if (b[0] >= OUTPUTS)
-				return BAD_FIELD;
+			if (i == TW_ACTIONS)
+				return TW_TOO_MANY;
+			if (b[0] >= TW_OUTPUTS)
+				return TW_BAD_FIELD;
 			c->output[i] = b[0];
 			c->value[i] = (int32_t)u32_at(b + 1);
 			c->actions = i + 1;
 			break;
 		case 3:
 			i = c->transitions;
-			if (i == TRANSITIONS)
-				return TOO_MANY;
+			if (i == TW_TRANSITIONS)
+				return TW_TOO_MANY;
 			if (before != 3) {
 				nostep = from(c->steps);
 				nosignal = signals_from(c->actions);
@@ -146,10 +146,10 @@ static unsigned read_records(const uint8_t *bytes, size_t size, struct chart *c,
 			break;
 		case 4:
 			i = c->blocks;
-			if (i == BLOCKS)
-				return TOO_MANY;
+			if (i == TW_BLOCKS)
+				return TW_TOO_MANY;
 			if (block_bad(c->steps, c->actions, b[0], b[1], b[2], u32_at(b + 3)))
-				return BAD_FIELD;
+				return TW_BAD_FIELD;
 			c->blockstep[i] = b[0];
 			c->blockaction[i] = b[1];
 			c->qualifier[i] = b[2];
@@ -158,10 +158,10 @@ static unsigned read_records(const uint8_t *bytes, size_t size, struct chart *c,
 			break;
 		case 5:
 			i = c->cases;
-			if (i == CASES)
-				return TOO_MANY;
+			if (i == TW_CASES)
+				return TW_TOO_MANY;
 			if (case_bad(c->steps, c->actions, b[0], b[1], b[2]))
-				return BAD_FIELD;
+				return TW_BAD_FIELD;
 			c->casestep[i] = b[0];
 			c->signal[i] = b[1];
 			c->expected[i] = b[2];
@@ -170,7 +170,7 @@ static unsigned read_records(const uint8_t *bytes, size_t size, struct chart *c,
 		default:
 			*place = at + 4;
 			if (at + 4 < size)
-				return SURPLUS;
+				return TW_SURPLUS;
 			*place = 0;
 			return closing_code(c);
 		}
@@ -179,10 +179,10 @@ static unsigned read_records(const uint8_t *bytes, size_t size, struct chart *c,
 	}
 }
 
-unsigned read_chart(const uint8_t *bytes, size_t size, struct chart *chart, size_t *place)
+enum tw_code c_read(const uint8_t *bytes, size_t size, struct tw_chart *chart, size_t *place)
 {
 	memset(chart, 0, sizeof *chart);
-	unsigned code = read_records(bytes, size, chart, place);
+	enum tw_code code = read_records(bytes, size, chart, place);
 	if (code)
 		memset(chart, 0, sizeof *chart);
 	return code;
@@ -195,18 +195,18 @@ static inline uint64_t bits_of(const uint8_t *flags)
 }
 
 /* Column by column, which the compiler makes vectors of; then only the timed blocks one by one. `twice` tells of two for one action. */
-static unsigned blocks_bad(const struct chart *c, uint32_t *twice)
+static unsigned blocks_bad(const struct tw_chart *c, uint32_t *twice)
 {
-	uint8_t steps = (uint8_t)c->steps, actions = (uint8_t)c->actions, timed[BLOCKS];
+	uint8_t steps = (uint8_t)c->steps, actions = (uint8_t)c->actions, timed[TW_BLOCKS];
 	uint32_t bad = 0, seen = 0;
 	size_t n = c->blocks;
 	*twice = 0;
 	for (size_t i = 0; i < n; i++)
-		bad |= (c->blockstep[i] >= steps) | (c->blockaction[i] >= actions) | (c->qualifier[i] > P0);
+		bad |= (c->blockstep[i] >= steps) | (c->blockaction[i] >= actions) | (c->qualifier[i] > TW_P0);
 	for (size_t i = 0; i < n; i++)
-		timed[i] = (c->qualifier[i] >= L) & (c->qualifier[i] <= SL) & (c->qualifier[i] != P);
+		timed[i] = (c->qualifier[i] >= TW_L) & (c->qualifier[i] <= TW_SL) & (c->qualifier[i] != TW_P);
 	for (size_t i = 0; i < n; i++)
-		bad |= (c->duration[i] > LONGEST) | (c->duration[i] & (timed[i] - UINT32_C(1)));
+		bad |= (c->duration[i] > TW_LONGEST) | (c->duration[i] & (timed[i] - UINT32_C(1)));
 	if (bad)
 		return 1;
 	for (size_t i = n; i % 8; i++)
@@ -221,34 +221,34 @@ static unsigned blocks_bad(const struct chart *c, uint32_t *twice)
 	return 0;
 }
 
-unsigned chart_code(const struct chart *c)
+enum tw_code c_test(const struct tw_chart *c)
 {
-	if (c->steps > STEPS || c->actions > ACTIONS || c->transitions > TRANSITIONS || c->blocks > BLOCKS || c->cases > CASES)
-		return TOO_MANY;
+	if (c->steps > TW_STEPS || c->actions > TW_ACTIONS || c->transitions > TW_TRANSITIONS || c->blocks > TW_BLOCKS || c->cases > TW_CASES)
+		return TW_TOO_MANY;
 	unsigned bad = 0;
 	for (size_t i = 0; i < c->steps; i++)
 		bad |= c->initial[i] > 1;
 	for (size_t i = 0; i < c->actions; i++)
-		bad |= c->output[i] >= OUTPUTS;
+		bad |= c->output[i] >= TW_OUTPUTS;
 	if (bad)
-		return BAD_FIELD;
+		return TW_BAD_FIELD;
 	uint64_t nostep = from(c->steps), nosignal = signals_from(c->actions);
 	for (size_t i = 0; i < c->transitions; i++) {
-		unsigned code = transition_code(nostep, nosignal, c->sources[i], c->targets[i], c->on[i], c->off[i], c->wait[i]);
+		enum tw_code code = transition_code(nostep, nosignal, c->sources[i], c->targets[i], c->on[i], c->off[i], c->wait[i]);
 		if (code)
 			return code;
 	}
 	uint32_t twice;
 	if (blocks_bad(c, &twice))
-		return BAD_FIELD;
+		return TW_BAD_FIELD;
 	uint8_t steps = (uint8_t)c->steps, signals = (uint8_t)(32 + c->actions);
 	for (size_t i = 0; i < c->cases; i++)
 		bad |= (c->casestep[i] >= steps) | (c->signal[i] >= signals) | (c->expected[i] > 1);
 	if (bad)
-		return BAD_FIELD;
+		return TW_BAD_FIELD;
 	if (!some_initial(c))
-		return NO_INITIAL;
-	return twice ? TIMED_TWICE : ACCEPTED;
+		return TW_NO_INITIAL;
+	return twice ? TW_TIMED_TWICE : TW_ACCEPTED;
 }
 
 /* A number's bytes, the least first; the place behind them. */
@@ -264,15 +264,15 @@ static inline uint8_t *put_head(uint8_t *b, unsigned kind)
 	return put(b, kind, 2);
 }
 
-unsigned write_chart(const struct chart *c, uint8_t *bytes, size_t lent, size_t *length)
+enum tw_code c_write(const struct tw_chart *c, uint8_t *bytes, size_t lent, size_t *length)
 {
 	*length = 0;
-	unsigned code = chart_code(c);
+	enum tw_code code = c_test(c);
 	if (code)
 		return code;
 	size_t whole = 5 * c->steps + 9 * c->actions + 40 * c->transitions + 11 * c->blocks + 7 * c->cases + 4;
 	if (lent < whole)
-		return FEW_BYTES;
+		return TW_TOO_FEW_BYTES;
 	uint8_t *b = bytes;
 	for (size_t i = 0; i < c->steps; i++) {
 		b = put_head(b, 1);
@@ -306,7 +306,7 @@ unsigned write_chart(const struct chart *c, uint8_t *bytes, size_t lent, size_t 
 	}
 	put_head(b, 0);
 	*length = whole;
-	return ACCEPTED;
+	return TW_ACCEPTED;
 }
 
 /* Counts are 0 outside the set and at most a day. A byte for each, which the compiler makes of vectors, then a bit of each byte. */
@@ -316,7 +316,7 @@ static inline unsigned counts_bad(const uint32_t *counts, size_t n, uint64_t set
 	uint64_t some = 0;
 	uint8_t flags[64];
 	for (size_t k = 0; k < n; k++)
-		bad |= counts[k] > LONGEST;
+		bad |= counts[k] > TW_LONGEST;
 	for (size_t k = 0; k < n; k++)
 		flags[k] = counts[k] != 0;
 	for (size_t k = 0; k < n; k += 8)
@@ -324,12 +324,12 @@ static inline unsigned counts_bad(const uint32_t *counts, size_t n, uint64_t set
 	return bad | ((some & ~set) != 0);
 }
 
-static inline unsigned belongs(const struct chart *c, const struct run *r)
+static inline unsigned belongs(const struct tw_chart *c, const struct tw_run *r)
 {
 	uint64_t noaction = from(c->actions);
 	if ((r->active & from(c->steps)) | ((r->activity | r->stored | r->latched) & noaction) | ((r->good | r->bad) & from(c->cases)))
 		return 0;
-	return !(counts_bad(r->counters, STEPS, r->active) | counts_bad(r->timers, ACTIONS, r->latched));
+	return !(counts_bad(r->counters, TW_STEPS, r->active) | counts_bad(r->timers, TW_ACTIONS, r->latched));
 }
 
 static inline void grow(uint32_t *counts, uint64_t set, uint32_t elapsed)
@@ -337,7 +337,7 @@ static inline void grow(uint32_t *counts, uint64_t set, uint32_t elapsed)
 	for (; set; set &= set - 1) {
 		unsigned k = __builtin_ctzll(set);
 		uint32_t n = counts[k] + elapsed;
-		counts[k] = n < LONGEST ? n : LONGEST;
+		counts[k] = n < TW_LONGEST ? n : TW_LONGEST;
 	}
 }
 
@@ -360,7 +360,7 @@ struct moves {
 	uint64_t taken, left, entered;
 };
 
-static inline struct moves choose(const struct chart *c, const struct run *r, uint64_t signals)
+static inline struct moves choose(const struct tw_chart *c, const struct tw_run *r, uint64_t signals)
 {
 	struct moves m = { 0, 0, 0 };
 	uint64_t active = r->active;
@@ -377,7 +377,7 @@ static inline struct moves choose(const struct chart *c, const struct run *r, ui
 	return m;
 }
 
-static void mark(const struct chart *c, struct run *r, uint64_t left, uint64_t signals)
+static void mark(const struct tw_chart *c, struct tw_run *r, uint64_t left, uint64_t signals)
 {
 	for (size_t i = 0; i < c->cases; i++) {
 		if (!(left >> c->casestep[i] & 1))
@@ -390,7 +390,7 @@ static void mark(const struct chart *c, struct run *r, uint64_t left, uint64_t s
 }
 
 /* Paragraphs 4 to 6, P by request (ii): the run has its new steps and counters, and timers that have grown. */
-static void settle(const struct chart *c, struct run *r, uint64_t entered, uint64_t left, int32_t *outputs)
+static void settle(const struct tw_chart *c, struct tw_run *r, uint64_t entered, uint64_t left, int32_t *outputs)
 {
 	uint64_t active = r->active, reset = 0, set = 0, latch = 0, want = 0, ripe = 0;
 	for (size_t i = 0; i < c->blocks; i++) {
@@ -398,22 +398,22 @@ static void settle(const struct chart *c, struct run *r, uint64_t entered, uint6
 		uint64_t on = active >> step & 1;
 		uint32_t count = r->counters[step], duration = c->duration[i];
 		switch (c->qualifier[i]) {
-		case N: want |= on << action; break;
-		case R: reset |= on << action; break;
-		case S: set |= on << action; break;
-		case L: want |= (on & (count < duration)) << action; break;
-		case D: want |= (on & (count >= duration)) << action; break;
-		case SD:
+		case TW_N: want |= on << action; break;
+		case TW_R: reset |= on << action; break;
+		case TW_S: set |= on << action; break;
+		case TW_L: want |= (on & (count < duration)) << action; break;
+		case TW_D: want |= (on & (count >= duration)) << action; break;
+		case TW_SD:
 			latch |= on << action;
 			ripe |= (uint64_t)(r->timers[action] >= duration) << action;
 			break;
-		case DS: set |= (on & (count >= duration)) << action; break;
-		case SL:
+		case TW_DS: set |= (on & (count >= duration)) << action; break;
+		case TW_SL:
 			latch |= on << action;
 			ripe |= (uint64_t)(r->timers[action] < duration) << action;
 			break;
-		case P: case P1: want |= (entered >> step & 1) << action; break;
-		case P0: want |= (left >> step & 1) << action; break;
+		case TW_P: case TW_P1: want |= (entered >> step & 1) << action; break;
+		case TW_P0: want |= (left >> step & 1) << action; break;
 		}
 	}
 	r->stored = (r->stored | set) & ~reset;
@@ -421,44 +421,44 @@ static void settle(const struct chart *c, struct run *r, uint64_t entered, uint6
 	clear(r->timers, r->latched & ~latched);
 	r->latched = latched;
 	r->activity = (r->stored | want | (latched & ripe)) & ~reset;
-	memset(outputs, 0, OUTPUTS * sizeof *outputs);
+	memset(outputs, 0, TW_OUTPUTS * sizeof *outputs);
 	for (size_t a = c->actions; a-- > 0;)
 		if (r->activity >> a & 1)
 			outputs[c->output[a]] = c->value[a];
 }
 
-unsigned start(const struct chart *c, uint32_t clock, int32_t *outputs, size_t lent, struct run *r)
+enum tw_code c_start(const struct tw_chart *c, struct tw_run *r, uint32_t clock, int32_t *outputs, size_t lent)
 {
 	memset(r, 0, sizeof *r);
-	if (lent < OUTPUTS)
-		return FEW_OUTPUTS;
-	unsigned code = chart_code(c);
+	if (lent < TW_OUTPUTS)
+		return TW_FEW_OUTPUTS;
+	enum tw_code code = c_test(c);
 	if (code)
 		return code;
 	for (size_t i = 0; i < c->steps; i++)
 		r->active |= (uint64_t)c->initial[i] << i;
 	r->clock = clock;
 	settle(c, r, r->active, 0, outputs);
-	return ACCEPTED;
+	return TW_ACCEPTED;
 }
 
 /* The tests that a cycle's clock has no part in. */
-static unsigned ready_code(const struct chart *c, const struct run *r, size_t lent)
+static enum tw_code ready_code(const struct tw_chart *c, const struct tw_run *r, size_t lent)
 {
-	if (lent < OUTPUTS)
-		return FEW_OUTPUTS;
-	unsigned code = chart_code(c);
+	if (lent < TW_OUTPUTS)
+		return TW_FEW_OUTPUTS;
+	enum tw_code code = c_test(c);
 	if (code)
 		return code;
-	return belongs(c, r) ? ACCEPTED : OTHER_RUN;
+	return belongs(c, r) ? TW_ACCEPTED : TW_OTHER_RUN;
 }
 
 /* A cycle of a chart and a run that passed those tests: 11, then paragraphs 1 to 6. */
-static inline unsigned advance(const struct chart *c, struct run *r, uint32_t clock, uint32_t inputs, int32_t *outputs, uint64_t *taken)
+static inline enum tw_code advance(const struct tw_chart *c, struct tw_run *r, uint32_t clock, uint32_t inputs, int32_t *outputs, uint64_t *taken)
 {
 	uint32_t elapsed = clock - r->clock;
-	if (elapsed > LATEST)
-		return TOO_LATE;
+	if (elapsed > TW_LATEST)
+		return TW_TOO_LATE;
 	grow(r->counters, r->active, elapsed);
 	grow(r->timers, r->latched, elapsed);
 	uint64_t signals = inputs | r->activity << 32;
@@ -470,28 +470,28 @@ static inline unsigned advance(const struct chart *c, struct run *r, uint32_t cl
 	settle(c, r, m.entered, m.left, outputs);
 	r->clock = clock;
 	*taken = m.taken;
-	return ACCEPTED;
+	return TW_ACCEPTED;
 }
 
-unsigned cycle(const struct chart *c, struct run *r, uint32_t clock, uint32_t inputs, int32_t *outputs, size_t lent, uint64_t *taken)
+enum tw_code c_cycle(const struct tw_chart *c, struct tw_run *r, uint32_t clock, uint32_t inputs, int32_t *outputs, size_t lent, uint64_t *taken)
 {
 	*taken = 0;
-	unsigned code = ready_code(c, r, lent);
+	enum tw_code code = ready_code(c, r, lent);
 	if (code)
 		return code;
 	return advance(c, r, clock, inputs, outputs, taken);
 }
 
-unsigned shift(const struct chart *c, struct run *r, const uint32_t *clocks, size_t nclocks, const uint32_t *inputs, size_t ninputs,
+enum tw_code c_shift(const struct tw_chart *c, struct tw_run *r, const uint32_t *clocks, size_t nclocks, const uint32_t *inputs, size_t ninputs,
 	uint64_t *words, size_t nwords, int32_t *outputs, size_t lent, size_t *accepted)
 {
 	uint64_t taken;
 	*accepted = 0;
-	unsigned code = ready_code(c, r, lent);
+	enum tw_code code = ready_code(c, r, lent);
 	if (code)
 		return code;
-	if (nclocks != ninputs || nclocks != nwords || nclocks > SHIFT)
-		return UNEVEN_LISTS;
+	if (nclocks != ninputs || nclocks != nwords || nclocks > TW_SHIFT)
+		return TW_UNEVEN_LISTS;
 	for (size_t k = 0; k < nclocks; k++) {
 		code = advance(c, r, clocks[k], inputs[k], outputs, &taken);
 		if (code)
@@ -499,117 +499,5 @@ unsigned shift(const struct chart *c, struct run *r, const uint32_t *clocks, siz
 		words[k] = r->activity;
 		*accepted = k + 1;
 	}
-	return ACCEPTED;
-}
-
-/* The parts of an image in their order, each handed to `part` with its place. */
-static void image_parts(uint8_t *image, struct run *r, int32_t *outputs, void (*part)(uint8_t *at, void *held, size_t size))
-{
-	struct { void *held; size_t size; } parts[] = {
-		{ &r->clock, 4 }, { &r->active, 8 }, { &r->activity, 8 }, { &r->stored, 8 }, { &r->latched, 8 }, { &r->good, 8 }, { &r->bad, 8 },
-		{ r->counters, sizeof r->counters }, { r->timers, sizeof r->timers }, { outputs, OUTPUTS * sizeof *outputs },
-	};
-	for (size_t i = 0; i < sizeof parts / sizeof *parts; image += parts[i++].size)
-		part(image, parts[i].held, parts[i].size);
-}
-
-static void to_image(uint8_t *at, void *held, size_t size)
-{
-	memcpy(at, held, size);
-}
-
-static void from_image(uint8_t *at, void *held, size_t size)
-{
-	memcpy(held, at, size);
-}
-
-uint64_t c_start(const uint8_t *bytes, size_t size, uint32_t clock, uint8_t *image, size_t room)
-{
-	struct chart c;
-	struct run r;
-	int32_t outputs[OUTPUTS] = { 0 };
-	size_t place;
-	if (room < IMAGE)
-		return REFUSED;
-	unsigned code = read_chart(bytes, size, &c, &place);
-	if (code)
-		return REFUSED + code;
-	code = start(&c, clock, outputs, OUTPUTS, &r);
-	image_parts(image, &r, outputs, to_image);
-	return code;
-}
-
-uint64_t c_cycles(const uint8_t *bytes, size_t size, const uint32_t *clocks, size_t nclocks, const uint32_t *inputs, size_t ninputs,
-	const uint32_t *waits, size_t nwaits, uint32_t n, uint8_t *image, size_t room)
-{
-	struct chart c;
-	struct run r;
-	int32_t outputs[OUTPUTS];
-	uint64_t accepted = 0, taken;
-	size_t place;
-	if (nclocks == 0 || ninputs == 0 || nwaits == 0 || room < IMAGE)
-		return REFUSED;
-	unsigned code = read_chart(bytes, size, &c, &place);
-	if (code)
-		return REFUSED + code;
-	image_parts(image, &r, outputs, from_image);
-	for (uint32_t i = 0; i < n; i++) {
-		c.wait[0] = waits[i % nwaits];
-		accepted += cycle(&c, &r, clocks[i % nclocks], inputs[i % ninputs], outputs, OUTPUTS, &taken) == ACCEPTED;
-	}
-	image_parts(image, &r, outputs, to_image);
-	return accepted;
-}
-
-uint64_t c_shift(const uint8_t *bytes, size_t size, const uint32_t *clocks, size_t nclocks, const uint32_t *inputs, size_t ninputs,
-	uint64_t *words, size_t nwords, uint8_t *image, size_t room)
-{
-	struct chart c;
-	struct run r;
-	int32_t outputs[OUTPUTS];
-	size_t place, accepted;
-	if (room < IMAGE)
-		return REFUSED;
-	unsigned code = read_chart(bytes, size, &c, &place);
-	if (code)
-		return REFUSED + code;
-	image_parts(image, &r, outputs, from_image);
-	code = shift(&c, &r, clocks, nclocks, inputs, ninputs, words, nwords, outputs, OUTPUTS, &accepted);
-	image_parts(image, &r, outputs, to_image);
-	return 65536 * (uint64_t)code + accepted;
-}
-
-uint64_t c_reads(const uint8_t *bytes, size_t size, uint32_t n)
-{
-	struct chart c;
-	size_t place;
-	uint64_t sum = 0;
-	for (uint32_t i = 0; i < n; i++)
-		sum += read_chart(bytes, size, &c, &place);
-	return sum;
-}
-
-uint64_t c_tests(const uint8_t *bytes, size_t size, uint32_t n)
-{
-	struct chart c;
-	size_t place;
-	uint64_t sum = 0;
-	read_chart(bytes, size, &c, &place);
-	for (uint32_t i = 0; i < n; i++) {
-		c.wait[0] = i;
-		sum += chart_code(&c);
-	}
-	return sum;
-}
-
-uint64_t c_writes(const uint8_t *bytes, size_t size, uint32_t n, uint8_t *file, size_t lent)
-{
-	struct chart c;
-	size_t place, length = 0;
-	read_chart(bytes, size, &c, &place);
-	for (uint32_t i = 0; i < n; i++) {
-		c.wait[0] = i;
-		write_chart(&c, file, lent, &length);
-	}
-	return length;
+	return TW_ACCEPTED;
 }

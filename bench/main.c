@@ -1,7 +1,7 @@
-/* Runs the proved engine and the plain C one on the same charts and inputs.
+/* Runs the library and the plain C engine on the same charts and inputs.
 
-     bench compare SEED COUNT               COUNT random charts, good and damaged: every answer, image, activity word and file equal, or exit 1
-     bench soak    SEED CHARTS N            N thousand cycles on each of CHARTS charts, images compared after each thousand: equal, or exit 1
+     bench compare SEED COUNT               COUNT random charts, good and damaged: every answer and all that is lent equal, or exit 1
+     bench soak    SEED CHARTS N            N thousand cycles on each of CHARTS charts, compared after each: equal, or exit 1
      bench cycles  CHART ENGINE SEED N      N cycles of small, typical, full or waiting on the engine proved, c or both (both: exit 1 if they differ)
      bench shift   CHART ENGINE SEED N      N cycles, at most 4,096, in one shift
      bench reads   CHART ENGINE SEED N      N readings of the chart's bytes
@@ -10,7 +10,7 @@
      bench time    CHART SEED N             nanoseconds of both for one of N cycles, N cycles in one shift (N at most 4,096), N readings, N tests
                                             and N writings, and their ratios
 
-   Charts and inputs are made at run time from the seed, so that the compiler can fold nothing away. */
+   Charts and inputs are made at run time from the seed, and both engines are compiled apart from this file, so that no call is folded away. */
 #include "engine.h"
 
 #include <stdio.h>
@@ -91,8 +91,8 @@ static void case_of(struct file *f, unsigned step, unsigned signal, unsigned exp
 
 #define BIT(k) (UINT64_C(1) << (k))
 
-static const unsigned UNTIMED[] = { N, R, S, P, P1, P0, N, N };
-static const unsigned TIMED[] = { L, D, SD, DS, SL };
+static const unsigned UNTIMED[] = { TW_N, TW_R, TW_S, TW_P, TW_P1, TW_P0, TW_N, TW_N };
+static const unsigned TIMED[] = { TW_L, TW_D, TW_SD, TW_DS, TW_SL };
 
 /* Blocks over all steps and actions; the first one of an action is timed, as long as there are such. */
 static void some_blocks(struct file *f, unsigned n, unsigned steps, unsigned actions)
@@ -199,7 +199,7 @@ static void random_chart(struct file *f)
 	uint64_t timed = 0;
 	for (unsigned i = 0; i < n; i++) {
 		unsigned a = any(actions), q = any(11 + (odd && any(odd) == 0));
-		int is_timed = q == L || q == D || q == SD || q == DS || q == SL;
+		int is_timed = q == TW_L || q == TW_D || q == TW_SD || q == TW_DS || q == TW_SL;
 		if (is_timed && (timed >> a & 1) && !(odd && any(odd) == 0))
 			is_timed = 0, q = any(3);
 		if (is_timed)
@@ -219,23 +219,20 @@ static void random_chart(struct file *f)
 }
 
 /* A shift may be lent one more than it takes; it is refused then, and the last one is never read. */
-enum { ROOM = SHIFT };
-static uint32_t clocks[ROOM + 1], inputs[ROOM + 1], waits[ROOM];
+enum { ROOM = TW_SHIFT };
+static uint32_t clocks[ROOM + 1], inputs[ROOM + 1];
 
-/* Clocks that go on from `last` by up to 50 ms, and waits that fit; with `jumps` now and then clocks that go back or on by up to two minutes,
-   and waits that are too long, so that cycles in the middle are refused. */
+/* Clocks that go on from `last` by up to 50 ms; with `jumps` now and then some that go back or on by up to two minutes, so that cycles in the
+   middle are refused. */
 static void some_inputs(uint32_t last, int jumps)
 {
 	for (size_t i = 0; i < ROOM; i++) {
 		clocks[i] = last + any(50);
 		if (jumps && any(10) == 0)
-			clocks[i] = last + any(any(2) ? LATEST + 2 : 2 * LATEST) - any(any(4) ? 1 : 100);
-		if (clocks[i] - last <= LATEST)
+			clocks[i] = last + any(any(2) ? TW_LATEST + 2 : 2 * TW_LATEST) - any(any(4) ? 1 : 100);
+		if (clocks[i] - last <= TW_LATEST)
 			last = clocks[i];
 		inputs[i] = (uint32_t)any_word();
-		waits[i] = any(2) ? 0 : any(60);
-		if (jumps && any(50) == 0)
-			waits[i] = LONGEST - 1 + any(3);
 	}
 }
 
@@ -256,103 +253,125 @@ static void chart_of(const char *name, struct file *f)
 	}
 }
 
-struct answer {
-	uint64_t number;
-	uint8_t image[IMAGE + 4];
-	uint64_t words[ROOM + 1];
+struct engine {
+	enum tw_code (*read)(const uint8_t *, size_t, struct tw_chart *, size_t *);
+	enum tw_code (*test)(const struct tw_chart *);
+	enum tw_code (*write)(const struct tw_chart *, uint8_t *, size_t, size_t *);
+	enum tw_code (*start)(const struct tw_chart *, struct tw_run *, uint32_t, int32_t *, size_t);
+	enum tw_code (*cycle)(const struct tw_chart *, struct tw_run *, uint32_t, uint32_t, int32_t *, size_t, uint64_t *);
+	enum tw_code (*shift)(const struct tw_chart *, struct tw_run *, const uint32_t *, size_t, const uint32_t *, size_t, uint64_t *, size_t,
+		int32_t *, size_t, size_t *);
+};
+
+static const struct engine PROVED = { tw_read, tw_test, tw_write, tw_start, tw_cycle, tw_shift };
+static const struct engine PLAIN = { c_read, c_test, c_write, c_start, c_cycle, c_shift };
+
+/* All that calls answer or leave: numbers, what was counted, the chart and the run, and what was lent. */
+struct bench {
+	uint64_t sum, accepted, taken;
+	size_t place, length, shifted;
+	struct tw_chart chart;
+	struct tw_run run;
+	int32_t outputs[TW_OUTPUTS + 4];
+	uint64_t activities[ROOM + 1];
 	uint8_t file[8192];
 };
 
-static uint64_t start_of(int proved, const struct file *f, uint32_t clock, struct answer *a)
+static void blank(struct bench *b)
 {
-	memset(a->image, 165, sizeof a->image);
-	return (proved ? tolwaziho_start : c_start)(f->bytes, f->size, clock, a->image, sizeof a->image);
+	memset(b, 165, sizeof *b);
+	b->sum = b->accepted = 0;
 }
 
-static uint64_t cycles_of(int proved, const struct file *f, uint32_t n, struct answer *a)
+/* A byte of the chart and of the run that is altered once they are there, and how. */
+static size_t chart_at, run_at;
+static uint8_t chart_by, run_by;
+
+static void read_and_start(const struct engine *e, const struct file *f, struct bench *b)
 {
-	return (proved ? tolwaziho_cycles : c_cycles)(f->bytes, f->size, clocks, ROOM, inputs, ROOM, waits, ROOM, n, a->image, sizeof a->image);
+	b->sum += e->read(f->bytes, f->size, &b->chart, &b->place);
+	b->sum += e->start(&b->chart, &b->run, clocks[0], b->outputs, TW_OUTPUTS + 4);
+	((uint8_t *)&b->chart)[chart_at] ^= chart_by;
+	((uint8_t *)&b->run)[run_at] ^= run_by;
 }
 
-/* By how many each of a shift's lists, clocks, inputs and activity words, is shorter than N. */
+static void make_cycles(const struct engine *e, uint32_t n, struct bench *b)
+{
+	for (uint32_t i = 0; i < n; i++) {
+		enum tw_code code = e->cycle(&b->chart, &b->run, clocks[i % ROOM], inputs[i % ROOM], b->outputs, TW_OUTPUTS + 4, &b->taken);
+		b->sum += code;
+		b->accepted += code == TW_ACCEPTED;
+	}
+}
+
+/* By how many each of a shift's lists, clocks, inputs and activity words, is shorter than N; and how many bytes are lent to be written. */
 static uint32_t cut[3];
+static size_t lent = sizeof ((struct bench *)0)->file;
 
-static uint64_t shift_of(int proved, const struct file *f, uint32_t n, struct answer *a)
+static void measure(const char *what, const struct engine *e, const struct file *f, uint32_t n, struct bench *b)
 {
-	memset(a->words, 165, sizeof a->words);
-	return (proved ? tolwaziho_shift : c_shift)(f->bytes, f->size, clocks, n - cut[0], inputs, n - cut[1], a->words, n - cut[2], a->image,
-		sizeof a->image);
-}
-
-/* Where the image is altered between a start and its cycles, and how. */
-static size_t altered_at;
-static uint8_t altered_by;
-
-/* How many bytes are lent to be written. */
-static size_t lent = sizeof ((struct answer *)0)->file;
-
-static uint64_t number_of(const char *what, int proved, const struct file *f, uint32_t n, struct answer *a)
-{
-	if (!strcmp(what, "cycles") || !strcmp(what, "shift")) {
-		uint64_t refused = start_of(proved, f, clocks[0], a);
-		a->image[altered_at] ^= altered_by;
-		return refused ? refused : (!strcmp(what, "shift") ? shift_of : cycles_of)(proved, f, n, a);
+	if (!strcmp(what, "cycles")) {
+		read_and_start(e, f, b);
+		make_cycles(e, n, b);
+	} else if (!strcmp(what, "shift")) {
+		read_and_start(e, f, b);
+		b->sum += e->shift(&b->chart, &b->run, clocks, n - cut[0], inputs, n - cut[1], b->activities, n - cut[2], b->outputs,
+			TW_OUTPUTS + 4, &b->shifted);
+	} else if (!strcmp(what, "reads")) {
+		for (uint32_t i = 0; i < n; i++)
+			b->sum += e->read(f->bytes, f->size, &b->chart, &b->place);
+	} else if (!strcmp(what, "tests")) {
+		read_and_start(e, f, b);
+		for (uint32_t i = 0; i < n; i++)
+			b->sum += e->test(&b->chart);
+	} else if (!strcmp(what, "writes")) {
+		read_and_start(e, f, b);
+		for (uint32_t i = 0; i < n; i++)
+			b->sum += e->write(&b->chart, b->file, lent, &b->length);
+	} else {
+		fprintf(stderr, "no measure %s\n", what);
+		exit(2);
 	}
-	if (!strcmp(what, "reads"))
-		return (proved ? tolwaziho_reads : c_reads)(f->bytes, f->size, n);
-	if (!strcmp(what, "tests"))
-		return (proved ? tolwaziho_tests : c_tests)(f->bytes, f->size, n);
-	if (!strcmp(what, "writes")) {
-		memset(a->file, 165, sizeof a->file);
-		return (proved ? tolwaziho_writes : c_writes)(f->bytes, f->size, n, a->file, lent);
-	}
-	fprintf(stderr, "no measure %s\n", what);
-	exit(2);
 }
 
-static void show(const char *engine, const struct answer *a)
+static int equal(const char *what, const struct bench *proved, const struct bench *c)
 {
-	printf("%s %llu ", engine, (unsigned long long)a->number);
-	for (size_t i = 0; i < sizeof a->image; i++)
-		printf("%02x", a->image[i]);
-	for (size_t i = 0; i < ROOM + 1; i++)
-		printf(" %llx", (unsigned long long)a->words[i]);
-	printf(" ");
-	for (size_t i = 0; i < sizeof a->file; i++)
-		printf("%02x", a->file[i]);
-	printf("\n");
-}
-
-static int equal(const char *what, const struct answer *proved, const struct answer *c)
-{
-	if (proved->number == c->number && !memcmp(proved->image, c->image, sizeof c->image) && !memcmp(proved->words, c->words, sizeof c->words)
-		&& !memcmp(proved->file, c->file, sizeof c->file))
+	if (!memcmp(proved, c, sizeof *c))
 		return 1;
-	printf("%s differ\n", what);
-	show("proved", proved);
-	show("c     ", c);
+	const uint8_t *p = (const uint8_t *)proved, *q = (const uint8_t *)c;
+	size_t at = 0;
+	while (p[at] == q[at])
+		at++;
+	printf("%s differ, first at byte %zu of struct bench; numbers %llu and %llu, accepted %llu and %llu\n", what, at,
+		(unsigned long long)proved->sum, (unsigned long long)c->sum, (unsigned long long)proved->accepted, (unsigned long long)c->accepted);
 	return 0;
 }
 
 static int same(const char *what, const struct file *f, uint32_t n)
 {
-	static struct answer proved, c;
-	proved.number = number_of(what, 1, f, n, &proved);
-	c.number = number_of(what, 0, f, n, &c);
+	static struct bench proved, c;
+	blank(&proved);
+	blank(&c);
+	measure(what, &PROVED, f, n, &proved);
+	measure(what, &PLAIN, f, n, &c);
 	return equal(what, &proved, &c);
 }
 
 static int compare(uint32_t count)
 {
 	static struct file f;
+	static struct tw_chart chart;
 	uint32_t accepted = 0;
+	size_t place;
 	for (uint32_t k = 0; k < count; k++) {
 		f.size = 0;
 		random_chart(&f);
 		if (k % 50 == 0)
 			some_inputs((uint32_t)any_word(), 1);
-		altered_at = any(IMAGE);
-		altered_by = any(8) ? 0 : (uint8_t)(1u << any(8));
+		chart_at = any(sizeof (struct tw_chart));
+		run_at = any(sizeof (struct tw_run));
+		chart_by = any(8) ? 0 : (uint8_t)(1u << any(8));
+		run_by = any(8) ? 0 : (uint8_t)(1u << any(8));
 		/* an accepted chart's file is as long as it was */
 		lent = any(2) ? any(8193) : f.size - (f.size != 0 && any(2));
 		uint32_t n = any(8) ? any(60) : ROOM + any(2);
@@ -363,22 +382,17 @@ static int compare(uint32_t count)
 			printf("chart %u\n", k);
 			return 1;
 		}
-		accepted += tolwaziho_reads(f.bytes, f.size, 1) == 0;
+		accepted += c_read(f.bytes, f.size, &chart, &place) == TW_ACCEPTED;
 	}
 	printf("%u charts, %u of them accepted: all answers equal\n", count, accepted);
 	return 0;
-}
-
-static uint32_t clock_in(const struct answer *a)
-{
-	return (uint32_t)a->image[0] | (uint32_t)a->image[1] << 8 | (uint32_t)a->image[2] << 16 | (uint32_t)a->image[3] << 24;
 }
 
 /* One run goes on and on; every other thousand of its cycles has jumps. */
 static int soak(uint32_t charts, uint32_t thousands)
 {
 	static struct file f;
-	static struct answer proved, c;
+	static struct bench proved, c;
 	static const char *const named[] = { "small", "typical", "full", "waiting" };
 	uint64_t accepted = 0;
 	for (uint32_t k = 0; k < charts; k++) {
@@ -388,22 +402,24 @@ static int soak(uint32_t charts, uint32_t thousands)
 			do {
 				f.size = 0;
 				random_chart(&f);
-			} while (tolwaziho_reads(f.bytes, f.size, 1) != 0);
-		uint32_t clock = (uint32_t)any_word();
-		proved.number = start_of(1, &f, clock, &proved);
-		c.number = start_of(0, &f, clock, &c);
+			} while (c_read(f.bytes, f.size, &c.chart, &c.place) != TW_ACCEPTED);
+		blank(&proved);
+		blank(&c);
+		clocks[0] = (uint32_t)any_word();
+		read_and_start(&PROVED, &f, &proved);
+		read_and_start(&PLAIN, &f, &c);
 		int same_yet = equal("starts", &proved, &c);
 		for (uint32_t t = 0; t < thousands && same_yet; t++) {
-			some_inputs(clock_in(&proved), t % 2);
-			proved.number = cycles_of(1, &f, 1000, &proved);
-			c.number = cycles_of(0, &f, 1000, &c);
-			accepted += proved.number;
+			some_inputs(proved.run.clock, t % 2);
+			make_cycles(&PROVED, 1000, &proved);
+			make_cycles(&PLAIN, 1000, &c);
 			same_yet = equal("soaks", &proved, &c);
 		}
 		if (!same_yet) {
 			printf("chart %u\n", k);
 			return 1;
 		}
+		accepted += proved.accepted;
 	}
 	printf("%u charts, %u thousand cycles on each, %llu accepted in all: after each thousand the same runs and outputs\n", charts, thousands,
 		(unsigned long long)accepted);
@@ -418,13 +434,14 @@ static double seconds(void)
 }
 
 /* The best of five, since other work on the machine only adds. */
-static double time_of(const char *what, int proved, const struct file *f, uint32_t n)
+static double time_of(const char *what, const struct engine *e, const struct file *f, uint32_t n)
 {
-	static struct answer a;
+	static struct bench b;
 	double best = 1e9;
 	for (int i = 0; i < 5; i++) {
+		blank(&b);
 		double began = seconds();
-		a.number = number_of(what, proved, f, n, &a);
+		measure(what, e, f, n, &b);
 		double took = seconds() - began;
 		if (took < best)
 			best = took;
@@ -450,21 +467,22 @@ int main(int argc, char **argv)
 		chart_of(argv[2], &f);
 		some_inputs((uint32_t)any_word(), 0);
 		for (int i = 0; i < 5; i++) {
-			double proved = time_of(what[i], 1, &f, n), c = time_of(what[i], 0, &f, n);
+			double proved = time_of(what[i], &PROVED, &f, n), c = time_of(what[i], &PLAIN, &f, n);
 			printf("%s %.1f %.1f %.2f\n", what[i], 1e9 * proved / n, 1e9 * c / n, proved / c);
 		}
 		return 0;
 	}
 	if (argc == 6) {
-		static struct answer a;
+		static struct bench b;
 		uint32_t n = (uint32_t)strtoul(argv[5], NULL, 10);
 		state = strtoull(argv[4], NULL, 10);
 		chart_of(argv[2], &f);
 		some_inputs((uint32_t)any_word(), 0);
 		if (!strcmp(argv[3], "both"))
 			return !same(argv[1], &f, n);
-		a.number = number_of(argv[1], !strcmp(argv[3], "proved"), &f, n, &a);
-		printf("%llu\n", (unsigned long long)a.number);
+		blank(&b);
+		measure(argv[1], strcmp(argv[3], "proved") ? &PLAIN : &PROVED, &f, n, &b);
+		printf("%llu\n", (unsigned long long)b.sum);
 		return 0;
 	}
 	fprintf(stderr, "usage: see the head of main.c\n");
