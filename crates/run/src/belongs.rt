@@ -1,8 +1,12 @@
 // The test of a held run against its chart: "A run belongs to a chart if .."
+ghost use Prim.Native.Nat.{_^_, _≤_, _<_};
+ghost use mathlib.Core.Bool.{_&&_, not, cond};
 ghost use mathlib.Core.Path.{_≡_};
+ghost use lib.Dec.{eqb, leb};
 ghost use lib.ListN.{length, getD};
-ghost use Rattle.sets.specs.Loops.{all};
+ghost use Rattle.sets.specs.Loops.{all, counted};
 ghost use Rattle.run.specs.Apart.{runOf};
+ghost use Rattle.run.specs.Run.{longest};
 ghost use Rattle.run.specs.Belongs.{countFits, namesFit, belongsTo};
 use crate::apart::Words;
 use crate::apart::counts_of;
@@ -11,24 +15,46 @@ use crate::apart::words_of;
 use crate::run::LONGEST;
 use crate::run::Run;
 
-// A count of k, which is 0 unless the set has k.
-fn count_fits(set: u64, k: usize, n: u32) -> bool
-    ensures { λ r. ⌜ r ≡ countFits set k n ⌝ }
+// Not 0, and no longer than a member's count may be.
+fn fits_member(n: u32) -> bool
+    ensures { λ r. ⌜ r ≡ (not (eqb n 0) && leb n longest) ⌝ }
 {
-    let is_in = sets::is_in(set, k);
-    (n <= LONGEST) & (is_in | (n == 0))
+    (n != 0) & (n <= LONGEST)
 }
 
-fn counts_fit(counts: &[u32], set: u64) -> bool
-    ensures { λ r. ⌜ r ≡ all (λ k. countFits set k (getD (now (counts .entry)) k 0)) (length (now (counts .entry))) ⌝ }
+fn one_if(b: bool) -> u32
+    ensures { λ r. ⌜ r ≡ cond b 1 0 ⌝ }
 {
-    let mut fit = true;
+    b as u32
+}
+
+// How many counts are not 0: a pass without a branch, of which the compiler makes vectors.
+fn nonzero(counts: &[u32]) -> u32
+    requires { ⌜ length (now counts) ≤ 64 ⌝ }
+    ensures { λ r. ⌜ r ≡ counted (λ k. not (eqb (getD (now (counts .entry)) k 0) 0)) (length (now (counts .entry))) ⌝ }
+{
+    let mut n = 0;
     let mut k = 0;
     while k < counts.len() {
-        fit = fit & count_fits(set, k, counts[k]);
+        n += one_if(counts[k] != 0);
         k += 1;
     }
-    fit
+    n
+}
+
+// Each count that is not 0 must be a member's, and not too long. Only the members are visited: of the counts that are not 0 those that fit are taken
+// off, and none may be left.
+fn counts_fit(counts: &[u32], set: u64) -> bool
+    requires { ⌜ (length (now counts) ≤ 64) × (set < 2 ^ length (now counts)) ⌝ }
+    ensures { λ r. ⌜ r ≡ all (λ k. countFits set k (getD (now (counts .entry)) k 0)) (length (now (counts .entry))) ⌝ }
+{
+    let mut left = nonzero(counts);
+    let mut rest = set;
+    while rest != 0 {
+        left -= one_if(fits_member(counts[sets::first(rest)]));
+        rest = sets::without_first(rest);
+    }
+    left == 0
 }
 
 fn names_fit(
@@ -74,7 +100,7 @@ pub fn parts_belong(
         words.good,
         words.bad,
     );
-    names & counts_fit(counts, words.active) & counts_fit(times, words.latched)
+    names & counts_fit(counts, words.active) & counts_fit(times, words.latched % 4_294_967_296)
 }
 
 pub fn belongs(run: Run, steps: usize, actions: usize, cases: usize) -> bool

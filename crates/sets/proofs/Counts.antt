@@ -1,13 +1,17 @@
 -- Counts of members: the machine's count of ones, and what is counted below a bound.
 use Prim.Native.Nat.{ℕ, zero, suc, _+_, _-_, _*_, _^_, _≤_, _<_}
-use mathlib.Core.Bool.{Bool, true, false, not, cond}
+use mathlib.Core.Bool.{Bool, true, false, _&&_, not, cond}
+use mathlib.Core.Logic.{⊎-elim}
 use mathlib.Core.Path.{_≡_, refl, sym, ap, _∙_}
-use native.Mathlib.Nat.{add-comm, add-zero, add-suc}
+use native.Mathlib.Nat.{add-comm, add-zero, add-suc, eq-or-lt-of-le, le-of-suc-le-suc}
 use native.Mathlib.Omega.{arith}
 use lib.Count.{ones, ones-cat, onesIn}
+use lib.Dec.{eqb}
 use native.Mathlib.Numerals.{add-one}
-use Rattle.sets.specs.Loops.{summed, counted}
+use borrow.Author.Tests.{ne-eqb}
+use Rattle.sets.specs.Loops.{all, summed, counted}
 use Rattle.sets.specs.Sets.{has, collect, Below, size}
+use Rattle.sets.proofs.Loops.{and-yes, and-no}
 use Rattle.sets.proofs.Below.{below-has}
 use Rattle.sets.proofs.Members.{same-members, collect-lt, has-collect}
 
@@ -42,6 +46,17 @@ unfolding summed
 summed-more f n zero h = ap (λ m. summed f m) (add-zero n)
 summed-more f n (suc d) h = rw (add-suc, h (n + d) (omega arith) (omega arith), add-zero) (summed-more f n d (λ k a b. h k a (omega arith)))
 
+-- a sum is less by what one of its numbers is less
+pub summed-less : (f g : ℕ → ℕ) (n k d : ℕ) → k < n → ((j : ℕ) → j < n → (j ≡ k → ⊥) → f j ≡ g j) → f k ≡ g k + d → summed f n ≡ summed g n + d
+unfolding summed
+summed-less f g zero k d l h e = absurd (omega arith)
+summed-less f g (suc n) k d l h e =
+    ⊎-elim (λ q. here q (summed-same f g n (λ j m. h j (omega arith) (λ z. omega arith))))
+    (λ m. omega (arith, summed-less f g n k d m (λ j x. h j (omega arith)) e, h n (omega arith) (λ z. omega arith))) (eq-or-lt-of-le (le-of-suc-le-suc l))
+  where
+    here : k ≡ n → summed f n ≡ summed g n → summed f n + f n ≡ summed g n + g n + d
+    here q before = let last : f n ≡ g n + d = rw q at e in omega (arith, before, last)
+
 -- what a loop that sums has in hand
 pub summed-start : (f : ℕ → ℕ) → 0 ≡ summed f 0
 unfolding summed
@@ -63,6 +78,16 @@ counted-not p (suc n) = go (p n) (counted-not p n)
     go : (b : Bool) → counted p n + counted (λ k. not (p k)) n ≡ n → counted p n + cond b 1 0 + (counted (λ k. not (p k)) n + cond (not b) 1 0) ≡ suc n
     go true h = omega arith
     go false h = omega arith
+
+-- p holds of all if those of which it does not are none
+pub none-counted : (p : ℕ → Bool) (n : ℕ) → eqb (counted (λ k. not (p k)) n) 0 ≡ all p n
+unfolding summed all
+none-counted p zero = refl
+none-counted p (suc n) = go (p n) (none-counted p n)
+  where
+    go : (b : Bool) → eqb (counted (λ k. not (p k)) n) 0 ≡ all p n → eqb (counted (λ k. not (p k)) n + cond (not b) 1 0) 0 ≡ (all p n && b)
+    go true e = rw add-zero (e ∙ and-yes (all p n))
+    go false e = ne-eqb (counted (λ k. not (p k)) n + 1) 0 (λ z. omega arith) ∙ sym (and-no (all p n))
 
 -- a set that names only numbers below n is counted below n
 pub size-below : (s n : ℕ) (p : ℕ → Bool) → n ≤ 64 → Below s n ≡ true → ((k : ℕ) → k < 64 → has s k ≡ p k) → size s ≡ counted p n

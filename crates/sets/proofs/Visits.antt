@@ -1,18 +1,20 @@
 -- A loop over the members of a set, least first: what holds of each number that is not, or no longer, to be visited.
 use mathlib.Core.Path.{_≡_, refl, sym, ap, _∙_}
-use mathlib.Core.Bool.{Bool, true, false, _&&_, not}
+use mathlib.Core.Bool.{Bool, true, false, _&&_, not, cond}
 use mathlib.Core.List.{List}
-use Prim.Native.Nat.{ℕ, _%_, _^_, _≤_, _<_}
+use Prim.Native.Nat.{ℕ, _+_, _-_, _%_, _^_, _≤_, _<_}
 use native.Mathlib.Nat.{lt-of-lt-of-le, lt-trans, mod-lt, mod-eq-of-lt}
+use native.Mathlib.Omega.{arith}
 use lib.Dec.{eqb}
 use lib.ListN.{length, getD, set, length-set}
 use lib.Pow.{pow-mono, pow-pos}
 use lib.Seq.{getD-set-same, getD-set-other}
-use borrow.Author.Tests.{eqb-true, eqb-false, not-true}
-use Rattle.sets.specs.Loops.{table}
+use borrow.Author.Tests.{eq-eqb, ne-eqb, eqb-true, eqb-false, not-true}
+use Rattle.sets.specs.Loops.{table, summed}
 use Rattle.sets.specs.Sets.{has, first, remove}
 use Rattle.sets.proofs.Loops.{and-true, and-yes, is-table}
 use Rattle.sets.proofs.Members.{has-zero, has-mod}
+use Rattle.sets.proofs.Counts.{summed-same, summed-less}
 use Rattle.sets.proofs.Least.{first-has, first-lt, remove-lt, has-remove}
 
 -- of the members of s, numbers below n, those of `rest` are still to be visited, and P holds of every other number below n
@@ -100,3 +102,36 @@ module _ {g : ℕ → ℕ} {old : List ℕ} {n s : ℕ} where
 
   pub changed-end : {rest : ℕ} {l : List ℕ} → Changed g old n s rest l → rest ≡ 0 → l ≡ table g n
   changed-end {rest} {l} w z = is-table g n l 0 (w .long) (visited-end (w .visited) z)
+
+-- a sum of n numbers, those of f at first, that is made less at the members of s: of each one still to be visited it has f's number, of each other
+-- one g's
+pub record Lessened (f g : ℕ → ℕ) (n s rest sum : ℕ) : Type 0 where
+  pub visited : Visited (λ j. Unit {0}) n s rest
+  pub sums : sum ≡ summed (λ j. cond (has rest j) (f j) (g j)) n
+
+module _ {f g : ℕ → ℕ} {n s : ℕ} where
+  pub lessened-start : {sum : ℕ} → n ≤ 64 → s < 2 ^ n → sum ≡ summed f n → ((j : ℕ) → j < n → has s j ≡ false → f j ≡ g j) → Lessened f g n s s sum
+  lessened-start a b e h = record { visited = visited-start a b (λ j l q. tt); sums = e ∙ summed-same f _ n (λ j l. go j l (has s j) refl) }
+    where
+      go : (j : ℕ) → j < n → (t : Bool) → has s j ≡ t → f j ≡ cond t (f j) (g j)
+      go j l true q = refl
+      go j l false q = h j l q
+
+  module _ {rest k sum : ℕ} (d : ℕ) (w : Lessened f g n s rest sum) (z : rest ≡ 0 → ⊥) (e : k ≡ first rest) (h : f k ≡ g k + d) where
+    one-less : {next : ℕ} → next ≡ remove rest (first rest) → sum ≡ summed (λ j. cond (has next j) (f j) (g j)) n + d
+    one-less {next} q = w .sums ∙ summed-less _ _ n k d (visit-lt (w .visited) z e) other here
+      where
+        other : (j : ℕ) → j < n → (j ≡ k → ⊥) → cond (has rest j) (f j) (g j) ≡ cond (has next j) (f j) (g j)
+        other j l o = rw (members (w .visited) z e q j l, ne-eqb j k o, ← and-yes (has rest j))
+
+        here : cond (has rest k) (f k) (g k) ≡ cond (has next k) (f k) (g k) + d
+        here = rw (members (w .visited) z e q k (visit-lt (w .visited) z e), eq-eqb k k refl, visit-rest (w .visited) z e) h
+
+    pub lessen-le : d ≤ sum
+    lessen-le = omega (arith, one-less refl)
+
+    pub lessened-turn : {next : ℕ} → next ≡ remove rest (first rest) → Lessened f g n s next (sum - d)
+    lessened-turn q = record { visited = visited-turn (w .visited) z e q (λ j o p. tt) tt; sums = omega (arith, one-less q) }
+
+  pub lessened-end : {rest sum : ℕ} → Lessened f g n s rest sum → rest ≡ 0 → sum ≡ summed g n
+  lessened-end {rest} w z = w .sums ∙ summed-same _ g n (λ j l. rw (z, has-zero j))

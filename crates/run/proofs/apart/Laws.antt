@@ -1,5 +1,5 @@
 -- A run taken apart and put together again is the run, and the test of its numbers is the test of its counters and timers.
-use Prim.Native.Nat.{ℕ, _<_}
+use Prim.Native.Nat.{ℕ, _%_, _^_, _<_}
 use mathlib.Core.List.{List}
 use mathlib.Core.Bool.{true, false, _||_}
 use mathlib.Core.Path.{_≡_, sym, ap}
@@ -9,6 +9,7 @@ use borrow.Author.Tests.{eqb-true}
 use Rattle.sets.specs.Loops.{all}
 use Rattle.sets.specs.Sets.{has}
 use Rattle.sets.proofs.Loops.{and-true, all-true, all-same, getD-table, is-table}
+use Rattle.sets.proofs.Members.{has-mod}
 use Rattle.run.specs.Run.{longest, counter, timer}
 use Rattle.run.specs.Apart.{wordsOf, countsOf, timesOf, countersOf, timersOf, runOf}
 use Rattle.run.specs.Belongs.{countFits, countersFit, timersFit}
@@ -36,8 +37,9 @@ put-together r w counts times e f g = rw (e, f .0, g .0, ← same-counters (r .c
 pub counts-fit : (l : List ℕ) (set : ℕ) → length l ≡ 64 → all (λ k. countFits set k (getD l k 0)) (length l) ≡ countersFit (countersOf l) set
 counts-fit l set e = rw e (all-same _ _ 64 (λ k m. rw (getD-table (λ j. counter (getD l j 0)) 64 k (counter 0) m)))
 
-pub times-fit : (l : List ℕ) (set : ℕ) → length l ≡ 32 → all (λ k. countFits set k (getD l k 0)) (length l) ≡ timersFit (timersOf l) set
-times-fit l set e = rw e (all-same _ _ 32 (λ k m. rw (getD-table (λ j. timer (getD l j 0)) 32 k (timer 0) m)))
+-- of the set, what is below 32
+pub times-fit : (l : List ℕ) (set : ℕ) → length l ≡ 32 → all (λ k. countFits (set % 2 ^ 32) k (getD l k 0)) (length l) ≡ timersFit (timersOf l) set
+times-fit l set e = rw e (all-same _ _ 32 (λ k m. rw (getD-table (λ j. timer (getD l j 0)) 32 k (timer 0) m, has-mod 32 set k m)))
 
 -- ---- numbers that fit are 0 outside their set
 

@@ -1,13 +1,18 @@
--- What a run that belongs to a chart is.
-use mathlib.Core.Bool.{true}
+-- What a run that belongs to a chart is, and the counts that do not fit.
+use Prim.Native.Nat.{ℕ, _+_}
+use mathlib.Core.Bool.{Bool, true, false, _&&_, not, cond}
+use mathlib.Core.List.{List}
 use mathlib.Core.Path.{_≡_, refl}
+use lib.Dec.{eqb, leb}
+use lib.ListN.{getD}
+use borrow.Author.Tests.{eqb-true}
 use Rattle.sets.specs.Loops.{all}
-use Rattle.sets.specs.Sets.{Below}
-use Rattle.sets.proofs.Loops.{and-true}
+use Rattle.sets.specs.Sets.{has, Below}
+use Rattle.sets.proofs.Loops.{and-true, and-no}
 use Rattle.sets.proofs.Below.{below-zero}
 use Rattle.chart.specs.declared.chart.Chart.{Chart}
-use Rattle.run.specs.Run.{noRun}
-use Rattle.run.specs.Belongs.{countersFit, timersFit, belongs}
+use Rattle.run.specs.Run.{noRun, longest}
+use Rattle.run.specs.Belongs.{countFits, countersFit, timersFit, belongs}
 use Rattle.run.specs.declared.run.Run.{Run}
 
 pub record Own (c : Chart) (r : Run) : Type 0 where
@@ -54,3 +59,33 @@ none-own c = is-own c noRun (record {
   counters = none-counters;
   timers = none-timers;
 })
+
+-- ---- how many counts do not fit: as many as are not 0, without the members' that fit
+
+abbrev pub one : Bool → ℕ
+one b = cond b 1 0
+
+abbrev pub nonzero : List ℕ → ℕ → Bool
+nonzero counts k = not (eqb (getD counts k 0) 0)
+
+abbrev pub unfit : List ℕ → ℕ → ℕ → Bool
+unfit counts set k = not (countFits set k (getD counts k 0))
+
+zero-fits : (n : ℕ) → eqb n 0 ≡ true → leb n longest ≡ true
+zero-fits n e = rw (eqb-true n 0 e)
+
+module _ (counts : List ℕ) (set k : ℕ) where
+  pub unfit-outside : has set k ≡ false → one (nonzero counts k) ≡ one (unfit counts set k)
+  unfit-outside h = rw h (go (eqb (getD counts k 0) 0) (leb (getD counts k 0) longest) (zero-fits (getD counts k 0)))
+    where
+      go : (z l : Bool) → (z ≡ true → l ≡ true) → one (not z) ≡ one (not (l && z))
+      go true l e = rw (e refl)
+      go false l e = rw (and-no l)
+
+  pub unfit-member : {b : Bool} {d : ℕ} → has set k ≡ true → b ≡ (nonzero counts k && leb (getD counts k 0) longest) → d ≡ one b → one (nonzero counts k) ≡ one (unfit counts set k) + d
+  unfit-member h p q = rw (h, q, p) (go (eqb (getD counts k 0) 0) (leb (getD counts k 0) longest) (zero-fits (getD counts k 0)))
+    where
+      go : (z l : Bool) → (z ≡ true → l ≡ true) → one (not z) ≡ one (not (l && true)) + one (not z && l)
+      go true l e = rw (e refl)
+      go false true e = refl
+      go false false e = refl

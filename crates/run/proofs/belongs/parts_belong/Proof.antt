@@ -1,5 +1,6 @@
 -- By its callees' statements, the last call first.
 use mathlib.Core.Path.{_≡_, _∙_}
+use native.Mathlib.Omega.{arith}
 use lib.ListN.{length}
 use denote.Ref.{now}
 use borrow.Author.Needs.{needs}
@@ -11,20 +12,20 @@ names-fit-requires : tie.Need-names-fit-requires
 names-fit-requires c κs = search needs
 
 counts-fit-requires : tie.Need-counts-fit-requires
-counts-fit-requires c κs = search needs
+counts-fit-requires c κs = let long : length (now (c .before .before .args .counts)) ≡ 64 = search needs in (omega (arith, long), rw long (search needs))
 
 counts-fit-requires-2 : tie.Need-counts-fit-requires-2
-counts-fit-requires-2 c κs = search needs
+counts-fit-requires-2 c κs = let short : length (now (c .before .before .before .before .before .args .times)) ≡ 32 = search needs in (omega (arith, short), rw short (omega arith))
 
 returns : tie.Need-returns
 returns c =
-    let a = c .before .before .before .before .before .args in
+    let a = c .before .before .before .before .before .before .args in
     let long : length (now (a .counts)) ≡ 64 = search needs in
     let short : length (now (a .times)) ≡ 32 = search needs in (
       rw (
         c .counts-fit2 .ensures ∙ times-fit (now (a .times)) (a .words .latched) short,
-        c .before .before .counts-fit .ensures ∙ counts-fit (now (a .counts)) (a .words .active) long,
-        c .before .before .before .before .names-fit .ensures,
+        c .before .before .before .counts-fit .ensures ∙ counts-fit (now (a .counts)) (a .words .active) long,
+        c .before .before .before .before .before .names-fit .ensures,
       ),
       long,
       short,
