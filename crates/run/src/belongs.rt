@@ -57,6 +57,7 @@ fn counts_fit(counts: &[u32], set: u64) -> bool
     left == 0
 }
 
+// Sets that have one limit are tested together.
 fn names_fit(
     steps: usize,
     actions: usize,
@@ -70,12 +71,10 @@ fn names_fit(
 ) -> bool
     ensures { λ r. ⌜ r ≡ namesFit steps actions cases active activity stored latched good bad ⌝ }
 {
+    let of_actions = sets::joined(sets::joined(activity, stored), latched);
     sets::names_below(active, steps)
-        & sets::names_below(activity, actions)
-        & sets::names_below(stored, actions)
-        & sets::names_below(latched, actions)
-        & sets::names_below(good, cases)
-        & sets::names_below(bad, cases)
+        & sets::names_below(of_actions, actions)
+        & sets::names_below(sets::joined(good, bad), cases)
 }
 
 // Whether a run that is taken apart belongs. The lengths are what the types say: of a lent array no proof knows it.

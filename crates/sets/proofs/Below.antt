@@ -8,7 +8,7 @@ use borrow.Author.Tests.{eqb-true, ltb-true, ltb-false, lt-ltb, not-true}
 use Rattle.sets.specs.Loops.{some}
 use Rattle.sets.specs.Sets.{has, collect, Within, Apart, Below, union, inter, minus, named}
 use Rattle.sets.proofs.Loops.{and-true, all-true, true-all}
-use Rattle.sets.proofs.Members.{has-collect, has-high, has-zero, collect-lt, has-named}
+use Rattle.sets.proofs.Members.{has-collect, has-high, has-zero, collect-lt, has-named, below-both}
 
 pub never : {A : Type 0} → false ≡ true → A
 never e = let z : _≡_ {A = ℕ} 0 1 = cc in absurd (omega arith)
@@ -45,8 +45,7 @@ below-collect p m n h = has-below (collect p m) n (λ k l e. go k e (ltb k m) re
 
 module _ (a b n : ℕ) where
   pub below-union : Below a n ≡ true → Below b n ≡ true → Below (union a b) n ≡ true
-  below-union e f =
-      has-below (union a b) n (λ k l h. either (has a k) (has b k) (given (λ k. has a k || has b k) k l h) (below-has a n e k l) (below-has b n f k l))
+  below-union e f = below-both a b n ∙ rw (e, f)
 
   pub below-inter : Below a n ≡ true → Below (inter a b) n ≡ true
   below-inter e = has-below (inter a b) n (λ k l h. below-has a n e k l (and-true (has a k) (has b k) (given (λ k. has a k && has b k) k l h) .0))

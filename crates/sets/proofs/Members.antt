@@ -286,15 +286,24 @@ has-beyond n k l = has-collect (λ k. leb n k) 64 k l ∙ go (ltb k n) refl
     go true e = lt-leb n k (ltb-true k n e)
     go false e = le-leb n k (ltb-false k n e)
 
--- two sets name only numbers below n if neither has a number from n on
-pub apart-beyond : (a b n : ℕ) → Apart (union a b) (beyond n) ≡ (Below a n && Below b n)
-apart-beyond a b n =
-    all-same _ _ 64 (λ k l. ap₂ (λ (x y : Bool). not (x && y)) (has-collect (λ k. has a k || has b k) 64 k l) (has-beyond n k l) ∙ go (has a k) (has b k) (ltb k n))
+-- two sets name only numbers below n if both together do
+pub below-both : (a b n : ℕ) → Below (union a b) n ≡ (Below a n && Below b n)
+below-both a b n =
+    all-same _ _ 64 (λ k l. ap (λ (x : Bool). not x || ltb k n) (has-collect (λ k. has a k || has b k) 64 k l) ∙ go (has a k) (has b k) (ltb k n))
     ∙ sym (all-both (λ k. not (has a k) || ltb k n) (λ k. not (has b k) || ltb k n) 64)
   where
-    go : (x y t : Bool) → not ((x || y) && not t) ≡ ((not x || t) && (not y || t))
+    go : (x y t : Bool) → not (x || y) || t ≡ ((not x || t) && (not y || t))
     go true y true = sym (or-true (not y))
     go true y false = refl
     go false true true = refl
     go false true false = refl
     go false false t = refl
+
+-- and if neither has a number from n on
+pub apart-beyond : (a b n : ℕ) → Apart (union a b) (beyond n) ≡ (Below a n && Below b n)
+apart-beyond a b n = all-same _ _ 64 (λ k l. ap (λ (x : Bool). not (has (union a b) k && x)) (has-beyond n k l) ∙ go (has (union a b) k) (ltb k n)) ∙ below-both a b n
+  where
+    go : (x t : Bool) → not (x && not t) ≡ (not x || t)
+    go true true = refl
+    go true false = refl
+    go false t = refl

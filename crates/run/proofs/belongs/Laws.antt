@@ -7,12 +7,13 @@ use lib.Dec.{eqb, leb}
 use lib.ListN.{getD}
 use borrow.Author.Tests.{eqb-true}
 use Rattle.sets.specs.Loops.{all}
-use Rattle.sets.specs.Sets.{has, Below}
-use Rattle.sets.proofs.Loops.{and-true, and-no}
+use Rattle.sets.specs.Sets.{has, Below, union}
+use Rattle.sets.proofs.Loops.{and-true, and-no, and-assoc}
+use Rattle.sets.proofs.Members.{below-both}
 use Rattle.sets.proofs.Below.{below-zero}
 use Rattle.chart.specs.declared.chart.Chart.{Chart}
 use Rattle.run.specs.Run.{noRun, longest}
-use Rattle.run.specs.Belongs.{countFits, countersFit, timersFit, belongs}
+use Rattle.run.specs.Belongs.{countFits, countersFit, timersFit, namesFit, belongs}
 use Rattle.run.specs.declared.run.Run.{Run}
 
 pub record Own (c : Chart) (r : Run) : Type 0 where
@@ -59,6 +60,18 @@ none-own c = is-own c noRun (record {
   counters = none-counters;
   timers = none-timers;
 })
+
+-- ---- sets that are tested together
+
+pub names-joined : (steps actions cases active activity stored latched good bad : ℕ)
+    → (Below active steps && Below (union (union activity stored) latched) actions && Below (union good bad) cases) ≡ namesFit steps actions cases active activity stored latched good bad
+names-joined steps actions cases active activity stored latched good bad =
+    rw (below-both (union activity stored) latched actions, below-both activity stored actions, below-both good bad cases)
+    (go (Below active steps) (Below activity actions) (Below stored actions) (Below latched actions) (Below good cases) (Below bad cases))
+  where
+    go : (a b c d e f : Bool) → (a && (b && c && d) && (e && f)) ≡ (a && b && c && d && e && f)
+    go true b c d e f = and-assoc (b && c && d) e f
+    go false b c d e f = refl
 
 -- ---- how many counts do not fit: as many as are not 0, without the members' that fit
 
