@@ -2,15 +2,17 @@
 use Prim.Native.Nat.{ℕ, zero, suc, _+_}
 use mathlib.Core.List.{List}
 use mathlib.Core.Bool.{cond}
+use lib.IntN.{ℤ}
 use lib.ListN.{length}
 use lib.Dec.{ltb, eqb}
-use Rattle.chart.specs.Chart.{noChart, withStep, withAction, withTransition, withBlock, withCase}
+use Rattle.chart.specs.Chart.{chartOf, noChart, withStep, withAction, withTransition, withBlock, withCase}
 use Rattle.chart.specs.Held.{closingCode}
 use Rattle.chart.specs.declared.chart.Chart.{Chart}
 use Rattle.reader.specs.Framing.{lengthAt, kindAt, recordNumber}
 use Rattle.reader.specs.Bodies.{bodyAt, bodyCode}
 use Rattle.reader.specs.declared.bodies.Body.{Body}
 use Rattle.reader.specs.declared.bodies.Body.the-variants.{Step, Action, Transition, Block, Case}
+use Rattle.reader.specs.declared.reading.Read.{Read}
 use Rattle.reader.specs.declared.reading.Reading.{Reading}
 
 -- "A refused reading returns an all-zero chart and a place"
@@ -57,3 +59,16 @@ readFrom (suc more) s at before c =
 -- a record takes four bytes or more, so there are no more records than bytes
 abbrev pub readChart : List ℕ → Reading
 readChart s = readFrom (length s + 1) s 0 0 noChart
+
+-- the tables that a chart is read into, in the order of its fields
+abbrev pub Tables : Type 0
+Tables =
+    List ℕ × List ℕ × List ℤ × List ℕ × List ℕ × List ℕ × List ℕ × List ℕ × List ℕ × List ℕ × List ℕ × List ℕ × List ℕ × List ℕ × List ℕ
+
+-- the reading whose chart lies in tables
+abbrev pub readingOf : Read → Tables → Reading
+readingOf r (initial, output, value, sources, targets, on, off, wait, blockstep, blockaction, qualifier, duration, casestep, signal, expected) = record {
+  code = r .code;
+  place = r .place;
+  chart = chartOf (r .steps) (r .actions) (r .transitions) (r .blocks) (r .cases) initial output value sources targets on off wait blockstep blockaction qualifier duration casestep signal expected;
+}

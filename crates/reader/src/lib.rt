@@ -7,5 +7,7 @@ pub mod reading;
 
 pub use framing::Next;
 pub use framing::record_at;
+pub use reading::Read;
 pub use reading::Reading;
 pub use reading::read_chart;
+pub use reading::read_into;
