@@ -70,6 +70,61 @@ pub extern "C" fn tolwaziho_next_record(
     t.code
 }
 
+// Reading, into the lent tables: the number, and its place.
+#[no_mangle]
+pub extern "C" fn tolwaziho_read(
+    bytes: &[u8],
+    steps: &mut usize,
+    actions: &mut usize,
+    transitions: &mut usize,
+    blocks: &mut usize,
+    cases: &mut usize,
+    initial: &mut [u8; 64],
+    output: &mut [u8; 32],
+    value: &mut [i32; 32],
+    sources: &mut [u64; 64],
+    targets: &mut [u64; 64],
+    on: &mut [u64; 64],
+    off: &mut [u64; 64],
+    wait: &mut [u32; 64],
+    blockstep: &mut [u8; 256],
+    blockaction: &mut [u8; 256],
+    qualifier: &mut [u8; 256],
+    duration: &mut [u32; 256],
+    casestep: &mut [u8; 64],
+    signal: &mut [u8; 64],
+    expected: &mut [u8; 64],
+    place: &mut usize,
+) -> u8
+    ensures { λ r. ⌜ readAs r (now (place .exit)) (chartOf (now (steps .exit)) (now (actions .exit)) (now (transitions .exit)) (now (blocks .exit)) (now (cases .exit)) (now (initial .exit)) (now (output .exit)) (now (value .exit)) (now (sources .exit)) (now (targets .exit)) (now (on .exit)) (now (off .exit)) (now (wait .exit)) (now (blockstep .exit)) (now (blockaction .exit)) (now (qualifier .exit)) (now (duration .exit)) (now (casestep .exit)) (now (signal .exit)) (now (expected .exit))) ≡ readChart (now (bytes .entry)) ⌝ }
+{
+    let r = reader::read_into(
+        bytes,
+        initial,
+        output,
+        value,
+        sources,
+        targets,
+        on,
+        off,
+        wait,
+        blockstep,
+        blockaction,
+        qualifier,
+        duration,
+        casestep,
+        signal,
+        expected,
+    );
+    *steps = r.steps;
+    *actions = r.actions;
+    *transitions = r.transitions;
+    *blocks = r.blocks;
+    *cases = r.cases;
+    *place = r.place;
+    r.code
+}
+
 // The test of a held chart: its number. No test looks at `value`.
 #[no_mangle]
 pub extern "C" fn tolwaziho_test<'a>(
