@@ -103,6 +103,9 @@ module _ (s : ℕ) (h : s < 2 ^ 64) (z : s ≡ 0 → ⊥) where
       go false e =
           absurd (z (same-members 64 s 0 h (omega arith) (λ k m. least .none k (omega (arith, ltb-false (first s) 64 e)) ∙ sym (has-zero k))))
 
+  pub first-least : (j : ℕ) → j < first s → has s j ≡ false
+  first-least = least .none
+
   pub first-lt : (n : ℕ) → s < 2 ^ n → first s < n
   first-lt n m = go (ltb (first s) n) refl
     where

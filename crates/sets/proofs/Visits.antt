@@ -15,7 +15,7 @@ use Rattle.sets.specs.Sets.{has, first, remove}
 use Rattle.sets.proofs.Loops.{and-true, and-yes, is-table}
 use Rattle.sets.proofs.Members.{has-zero, has-mod}
 use Rattle.sets.proofs.Counts.{summed-same, summed-less}
-use Rattle.sets.proofs.Least.{first-has, first-lt, remove-lt, has-remove}
+use Rattle.sets.proofs.Least.{first-has, first-least, first-lt, remove-lt, has-remove}
 
 -- of the members of s, numbers below n, those of `rest` are still to be visited, and P holds of every other number below n
 pub record Visited (P : ℕ → Type 0) (n s rest : ℕ) : Type 0 where
@@ -45,6 +45,9 @@ module _ {P : ℕ → Type 0} {n s : ℕ} where
 
     pub visit-rest : has rest k ≡ true
     visit-rest = rw e (first-has rest word z)
+
+    pub visit-least : (j : ℕ) → j < k → has rest j ≡ false
+    visit-least j l = first-least rest word z j (rw e at l)
 
     pub visit-has : has s k ≡ true
     visit-has = v .within k visit-lt visit-rest
