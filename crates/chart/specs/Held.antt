@@ -1,11 +1,13 @@
 -- "A chart held by a caller may have been altered. Every call tests it again: 4, then records by kind with 5, 6, 7, then 9, 8.
 -- Entries beyond a count play no part."
-use Prim.Native.Nat.{ℕ}
+use Prim.Native.Nat.{ℕ, zero, suc, _+_, _-_, _<_, max}
+use mathlib.Core.Path.{_≡_}
 use mathlib.Core.List.{List}
-use mathlib.Core.Bool.{Bool, _&&_, not}
-use lib.ListN.{getD}
-use lib.Dec.{leb, eqb}
+use mathlib.Core.Bool.{Bool, false, _&&_, not}
+use lib.ListN.{length, getD}
+use lib.Dec.{leb, ltb, eqb}
 use Rattle.sets.specs.Loops.{some, orElse, firstCode}
+use Rattle.sets.specs.Sets.{collect}
 use Rattle.fields.specs.Fields.{timed, unless, stepFits, actionFits, transitionCode, blockNames, durationFits, blockFits, caseFits}
 use Rattle.chart.specs.declared.chart.Chart.{Chart}
 
@@ -13,6 +15,11 @@ use Rattle.chart.specs.declared.chart.Chart.{Chart}
 abbrev pub limitsFit : ℕ → ℕ → ℕ → ℕ → ℕ → Bool
 limitsFit steps actions transitions blocks cases =
     leb steps 64 && leb actions 32 && leb transitions 64 && leb blocks 256 && leb cases 64
+
+-- the largest of the first n numbers of a table, 0 if there are none: what the test of the steps and of the actions goes by
+unfoldable pub largest : ℕ → List ℕ → ℕ
+largest zero table = 0
+largest (suc n) table = max (largest n table) (getD table n 0)
 
 -- each record of a held table by the definition that the reader has for its kind, and the first refusal in number order
 abbrev pub stepFitsAt : List ℕ → ℕ → Bool
@@ -75,6 +82,19 @@ timedFor action qualifier a n = some (λ i. timed (getD qualifier i 0) && eqb (g
 -- "two timed blocks for one action": a timed block, and an earlier one of its action
 abbrev pub timedAgain : List ℕ → List ℕ → ℕ → Bool
 timedAgain action qualifier i = timed (getD qualifier i 0) && timedFor action qualifier (getD action i 0) i
+
+-- which of the blocks from a place on are timed, counted from 1, as a set
+abbrev pub timedFrom : ℕ → List ℕ → ℕ → Bool
+timedFrom at qualifier k = ltb 0 k && timed (getD qualifier (at + k - 1) 0)
+
+unfoldable pub timedAmong : ℕ → ℕ → List ℕ → ℕ
+timedAmong at left qualifier = collect (timedFrom at qualifier) (left + 1)
+
+-- what is known after n blocks: a flag for each action that had a timed one, and whether one had two
+pub record Seen (action qualifier : List ℕ) (seen : List Bool) (twice : Bool) (n : ℕ) : Type 0 where
+  pub long : length seen ≡ 256
+  pub marks : (a : ℕ) → a < 256 → getD seen a false ≡ timedFor action qualifier a n
+  pub again : twice ≡ some (timedAgain action qualifier) n
 
 unfoldable pub timedTwice : ℕ → List ℕ → List ℕ → Bool
 timedTwice n action qualifier = some (timedAgain action qualifier) n

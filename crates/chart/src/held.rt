@@ -2,11 +2,12 @@
 // Every call of the engine makes it, so its passes have no branch on what an entry is: only where a transition is refused are they gone through
 // again, for the first number, and blocks of which none is timed are passed over by sixteen.
 ghost use mathlib.Core.Path.{_≡_};
-ghost use Prim.Native.Nat.{_+_, _≤_, min};
+ghost use Prim.Native.Nat.{_+_, _≤_, min, max};
+ghost use mathlib.Core.Bool.{not};
 ghost use lib.ListN.{length, getD};
-ghost use Rattle.sets.specs.Loops.{all, some};
-ghost use Rattle.fields.specs.Fields.{timed};
-ghost use Rattle.chart.specs.Held.{limitsFit, stepsCode, actionsCode, transitionPassesAt, transitionsCode, blockNamesAt, durationFitsAt, blocksCode, casesCode, someInitial, timedTwice, closingCode, heldCode, chartCode};
+ghost use Rattle.sets.specs.Loops.{all, some, orElse};
+ghost use Rattle.fields.specs.Fields.{timed, unless};
+ghost use Rattle.chart.specs.Held.{limitsFit, largest, actionsCode, transitionPassesAt, transitionsCode, blockNamesAt, durationFitsAt, blocksCode, casesCode, someInitial, timedAmong, Seen, timedTwice, closingCode, heldCode, chartCode};
 use crate::chart::Chart;
 use crate::chart::at_most;
 use crate::chart::index_of;
@@ -21,30 +22,31 @@ fn limits_fit(steps: usize, actions: usize, transitions: usize, blocks: usize, c
     (steps <= 64) & (actions <= 32) & (transitions <= 64) & (blocks <= 256) & (cases <= 64)
 }
 
-fn steps_code(n: usize, initial: &[u8; 64]) -> u8
-    requires { ⌜ n ≤ 64 ⌝ }
-    ensures { λ r. ⌜ r ≡ stepsCode n (now (initial .entry)) ⌝ }
+fn larger(a: u8, b: u8) -> u8
+    ensures { λ r. ⌜ r ≡ max a b ⌝ }
 {
-    let mut fit = true;
+    if a < b { b } else { a }
+}
+
+// The largest of a table's first bytes, 0 if there are none: a limit that it keeps, they all keep.
+fn largest(n: usize, table: &[u8]) -> u8
+    requires { ⌜ n ≤ length (now table) ⌝ }
+    ensures { λ r. ⌜ r ≡ largest n (now (table .entry)) ⌝ }
+{
+    let mut most = 0;
     let mut i = 0;
     while i < n {
-        fit = fit & fields::step_fits(initial[i]);
+        most = larger(most, table[i]);
         i += 1;
     }
-    fields::unless(fit, BAD_FIELD)
+    most
 }
 
 fn actions_code(n: usize, output: &[u8; 32]) -> u8
     requires { ⌜ n ≤ 32 ⌝ }
     ensures { λ r. ⌜ r ≡ actionsCode n (now (output .entry)) ⌝ }
 {
-    let mut fit = true;
-    let mut i = 0;
-    while i < n {
-        fit = fit & fields::action_fits(output[i]);
-        i += 1;
-    }
-    fields::unless(fit, BAD_FIELD)
+    fields::unless(fields::action_fits(largest(n, output)), BAD_FIELD)
 }
 
 fn transitions_pass<'a>(
@@ -226,27 +228,59 @@ fn some_timed(at: usize, qualifier: &[u8; 256]) -> bool
     any
 }
 
-// A chart has at most one timed block for each action, so few of its sixteens have one. A look that goes on behind `n` may find one there: then the
-// last blocks are gone through for nothing.
+// Which of the blocks from a place on are timed, as a set: number k + 1 for block at + k, since the compiler makes vectors only of sixteen shifts alike,
+// and a shift by 0 is none. Half a word takes half as many.
+fn timed_among(at: usize, left: usize, qualifier: &[u8; 256]) -> u32
+    requires { ⌜ (at ≤ 240) × (left ≤ 16) ⌝ }
+    ensures { λ r. ⌜ r ≡ timedAmong at left (now (qualifier .entry)) ⌝ }
+{
+    let mut among = 0u32;
+    let mut k = 0;
+    while k < 16 {
+        among = among | (fields::is_timed(qualifier[at + k]) as u32) << (k + 1);
+        k += 1;
+    }
+    among % (2 << left)
+}
+
+// Of the blocks from a place on only the timed ones are visited.
+fn see_timed<'a>(
+    at: usize,
+    left: usize,
+    twice: bool,
+    blockaction: &'a [u8; 256],
+    qualifier: &'a [u8; 256],
+    seen: &mut [bool; 256],
+) -> bool
+    requires { ⌜ (at ≤ 240) × (left ≤ 16) × Seen (now blockaction) (now qualifier) (now seen) twice at ⌝ }
+    ensures { λ r. ⌜ Seen (now (blockaction .entry)) (now (qualifier .entry)) (now (seen .exit)) r (at + left) ⌝ }
+{
+    let mut again = twice;
+    let mut rest = timed_among(at, left, qualifier);
+    while rest != 0 {
+        let i = at + sets::first(rest as u64) - 1;
+        let a = index_of(blockaction[i]);
+        again = again | seen[a];
+        seen[a] = true;
+        rest = sets::without_first(rest as u64) as u32;
+    }
+    again
+}
+
+// A chart has at most one timed block for each action, so that many sixteens have none.
 fn timed_twice<'a>(n: usize, blockaction: &'a [u8; 256], qualifier: &'a [u8; 256]) -> bool
     requires { ⌜ n ≤ 256 ⌝ }
     ensures { λ r. ⌜ r ≡ timedTwice n (now (blockaction .entry)) (now (qualifier .entry)) ⌝ }
 {
     let mut seen = [false; 256];
     let mut twice = false;
-    let mut i = 0;
-    while i < n {
-        let end = at_most(n, i + 16);
-        if some_timed(at_most(i, 240), qualifier) {
-            while i < end {
-                let timed = fields::is_timed(qualifier[i]);
-                let a = index_of(blockaction[i]);
-                twice = twice | (timed & seen[a]);
-                seen[a] = timed | seen[a];
-                i += 1;
-            }
+    let mut at = 0;
+    while at < n {
+        if some_timed(at, qualifier) {
+            let left = at_most(n - at, 16);
+            twice = see_timed(at, left, twice, blockaction, qualifier, &mut seen);
         }
-        i = end;
+        at += 16;
     }
     twice
 }
@@ -258,7 +292,17 @@ pub(crate) fn within(n: usize, table: &[u8]) -> usize
     at_most(n, table.len())
 }
 
-// What is tested once the records are done: no initial step (9), two timed blocks for one action (8).
+// No initial step (9), two timed blocks for one action (8).
+fn closing(initial: bool, twice: bool) -> u8
+    ensures { λ r. ⌜ r ≡ orElse (unless initial 9) (unless (not twice) 8) ⌝ }
+{
+    fields::or_else(
+        fields::unless(initial, NO_INITIAL),
+        fields::unless(!twice, TIMED_TWICE),
+    )
+}
+
+// What is tested once the records are done.
 pub fn closing_code<'a>(
     steps: usize,
     blocks: usize,
@@ -268,12 +312,12 @@ pub fn closing_code<'a>(
 ) -> u8
     ensures { λ r. ⌜ r ≡ closingCode steps blocks (now (initial .entry)) (now (blockaction .entry)) (now (qualifier .entry)) ⌝ }
 {
-    let none = fields::unless(some_initial(within(steps, initial), initial), NO_INITIAL);
+    let some = some_initial(within(steps, initial), initial);
     let twice = timed_twice(within(blocks, qualifier), blockaction, qualifier);
-    fields::or_else(none, fields::unless(!twice, TIMED_TWICE))
+    closing(some, twice)
 }
 
-// The test on a chart's lent tables: a caller that holds the chart hands no copy of it down.
+// The test on a chart's lent tables: a caller that holds the chart hands no copy of it down. Where no mark is above 1, the largest tells whether one is.
 pub fn held_code<'a>(
     steps: usize,
     actions: usize,
@@ -300,7 +344,8 @@ pub fn held_code<'a>(
     if !limits_fit(steps, actions, transitions, blocks, cases) {
         return TOO_MANY;
     }
-    let s = steps_code(steps, initial);
+    let mark = largest(steps, initial);
+    let s = fields::unless(fields::step_fits(mark), BAD_FIELD);
     let a = actions_code(actions, output);
     let t = transitions_code(transitions, steps, actions, sources, targets, on, off, wait);
     let b = blocks_code(
@@ -313,7 +358,7 @@ pub fn held_code<'a>(
         duration,
     );
     let c = cases_code(cases, steps, actions, casestep, signal, expected);
-    let z = closing_code(steps, blocks, initial, blockaction, qualifier);
+    let z = closing(mark == 1, timed_twice(blocks, blockaction, qualifier));
     let later = fields::or_else(b, fields::or_else(c, z));
     fields::or_else(s, fields::or_else(a, fields::or_else(t, later)))
 }

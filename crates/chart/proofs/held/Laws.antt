@@ -1,24 +1,73 @@
 -- A table whose entries fit or are refused 5 is tested by one test of all.
-use Prim.Native.Nat.{ℕ, zero, suc, _+_, _-_, _≤_, _<_, min}
+use Prim.Native.Nat.{ℕ, zero, suc, _+_, _≤_, _<_, min, max}
 use mathlib.Core.List.{List}
 use mathlib.Core.Bool.{Bool, true, false, _&&_, _||_}
 use mathlib.Core.Path.{_≡_, refl, sym, ap, ap₂, _∙_}
-use native.Mathlib.Nat.{add-zero}
+use native.Mathlib.Numerals.{add-one}
 use native.Mathlib.Omega.{arith}
-use lib.ListN.{length, getD, set, replicate, length-set, length-replicate, getD-replicate, List·getD-eq-default}
-use lib.Seq.{getD-set-same, getD-set-other, set-getD}
+use lib.ListN.{length, getD, List·getD-eq-default}
 use lib.Dec.{leb, ltb, eqb}
-use borrow.Author.Tests.{leb-true, lt-ltb, ltb-true, eqb-true, eqb-false}
-use Rattle.sets.specs.Loops.{all, some, firstCode}
-use Rattle.sets.proofs.Loops.{first-by-test, and-true, some-start, some-turn, some-none, some-same, some-capped, all-both, all-same, all-done, or-false, or-true, and-yes, and-no}
+use borrow.Author.Tests.{le-leb, lt-leb, leb-true, leb-false, lt-ltb, ltb-true, eq-eqb, ne-eqb, eqb-true, eqb-false}
+use Rattle.sets.specs.Loops.{all, some, orElse, firstCode}
+use Rattle.sets.proofs.Loops.{first-by-test, and-true, some-same, some-capped, all-both, all-same, and-yes, and-no}
 use Rattle.fields.specs.Fields.{timed, unless}
-use Rattle.chart.specs.Held.{limitsFit, blockNamesAt, durationFitsAt, blockFitsAt, blocksCode, caseFitsAt, casesCode, initialAt, someInitial, timedFor, timedAgain, timedTwice}
+use Rattle.chart.specs.Held.{limitsFit, largest, stepsCode, blockNamesAt, durationFitsAt, blockFitsAt, blocksCode, caseFitsAt, casesCode, initialAt, someInitial, timedFor, timedAgain, timedTwice}
 
 test-code : (p : ℕ → Bool) (n : ℕ) {fit : Bool} → fit ≡ all p n → unless fit 5 ≡ firstCode (λ k. unless (p k) 5) n
 test-code p n e = ap (λ (x : Bool). unless x 5) e ∙ sym (first-by-test 5 p n (λ z. omega arith))
 
-pub column-end : (p : ℕ → Bool) (n i : ℕ) {fit : Bool} {r : ℕ} → r ≡ unless fit 5 → fit ≡ all p i → n ≤ i → i ≤ n → r ≡ firstCode (λ k. unless (p k) 5) n
-column-end p n i e f a b = e ∙ test-code p n (all-done p i f a b)
+-- ---- the largest of a table's numbers
+
+pub largest-start : (table : List ℕ) → 0 ≡ largest 0 table
+unfolding largest
+largest-start table = refl
+
+pub largest-turn : (table : List ℕ) (i : ℕ) {most next : ℕ} → most ≡ largest i table → next ≡ max most (getD table i 0) → next ≡ largest (i + 1) table
+unfolding largest
+largest-turn table i e f = rw (add-one, ← e) f
+
+-- a limit that it keeps, all of them keep
+largest-all : (m n : ℕ) (table : List ℕ) → leb (largest n table) m ≡ all (λ i. leb (getD table i 0) m) n
+unfolding largest all
+largest-all m zero table = le-leb 0 m (omega arith)
+largest-all m (suc n) table = both (largest n table) (getD table n 0) ∙ ap (λ (x : Bool). x && leb (getD table n 0) m) (largest-all m n table)
+  where
+    both : (a b : ℕ) → leb (max a b) m ≡ leb a m && leb b m
+    both a b = go (leb a m) (leb b m) refl refl
+      where
+        go : (x y : Bool) → leb a m ≡ x → leb b m ≡ y → leb (max a b) m ≡ x && y
+        go true true e f = le-leb _ m (omega (arith, leb-true a m e, leb-true b m f))
+        go true false e f = lt-leb _ m (omega (arith, leb-false b m f))
+        go false y e f = lt-leb _ m (omega (arith, leb-false a m e))
+
+pub largest-code : (m n : ℕ) (table : List ℕ) → unless (leb (largest n table) m) 5 ≡ firstCode (λ i. unless (leb (getD table i 0) m) 5) n
+largest-code m n table = test-code (λ i. leb (getD table i 0) m) n (largest-all m n table)
+
+largest-one : (n : ℕ) (table : List ℕ) → largest n table ≤ 1 → eqb (largest n table) 1 ≡ some (λ i. eqb (getD table i 0) 1) n
+unfolding largest some
+largest-one zero table h = refl
+largest-one (suc n) table h =
+    go (largest n table) (getD table n 0) h (eqb (largest n table) 1) (eqb (getD table n 0) 1) refl refl
+    ∙ ap (λ (x : Bool). x || eqb (getD table n 0) 1) (largest-one n table (omega arith))
+  where
+    go : (a b : ℕ) → max a b ≤ 1 → (x y : Bool) → eqb a 1 ≡ x → eqb b 1 ≡ y → eqb (max a b) 1 ≡ x || y
+    go a b l true y e f = let q = eqb-true a 1 e in eq-eqb (max a b) 1 (omega arith)
+    go a b l false true e f = let q = eqb-true b 1 f in eq-eqb (max a b) 1 (omega arith)
+    go a b l false false e f = let x = eqb-false a 1 e in let y = eqb-false b 1 f in ne-eqb (max a b) 1 (λ m. omega arith)
+
+-- the largest mark tells whether all fit, and then whether one is 1; a, t, b and c are the numbers between the two tests, z the one behind
+pub marks-code : (n : ℕ) (initial : List ℕ) (a t b c z : ℕ)
+    → orElse (unless (leb (largest n initial) 1) 5) (orElse a (orElse t (orElse b (orElse c (orElse (unless (eqb (largest n initial) 1) 9) z)))))
+    ≡ orElse (stepsCode n initial) (orElse a (orElse t (orElse b (orElse c (orElse (unless (someInitial n initial) 9) z)))))
+unfolding stepsCode someInitial
+marks-code n initial a t b c z = rw (← largest-code 1 n initial) (go (leb (largest n initial) 1) refl)
+  where
+    rest : Bool → ℕ
+    rest one = orElse a (orElse t (orElse b (orElse c (orElse (unless one 9) z))))
+
+    go : (fit : Bool) → leb (largest n initial) 1 ≡ fit → orElse (unless fit 5) (rest (eqb (largest n initial) 1)) ≡ orElse (unless fit 5) (rest (some (initialAt initial) n))
+    go true e = ap rest (largest-one n initial (leb-true _ 1 e))
+    go false e = refl
 
 -- ---- the tests by columns
 
@@ -69,69 +118,6 @@ initial-within n initial = some-capped (initialAt initial) (length initial) n (�
 pub twice-within : (n : ℕ) (action qualifier : List ℕ) → timedTwice (min n (length qualifier)) action qualifier ≡ timedTwice n action qualifier
 unfolding timedTwice
 twice-within n action qualifier = some-capped (timedAgain action qualifier) (length qualifier) n (λ k l. rw (List·getD-eq-default qualifier 0 l))
-
--- ---- the actions that had a timed block so far
-
-pub record Seen (acts quals : List ℕ) (seen : List Bool) (twice : Bool) (i : ℕ) : Type 0 where
-  pub long : length seen ≡ 256
-  pub marks : (a : ℕ) → a < 256 → getD seen a false ≡ timedFor acts quals a i
-  pub again : twice ≡ some (timedAgain acts quals) i
-
-pub none-seen : (acts quals : List ℕ) → Seen acts quals (replicate 256 false) false 0
-unfolding timedFor
-none-seen acts quals = record {
-  long = length-replicate 256 false;
-  marks = λ a h. getD-replicate 256 a false false h ∙ some-start _;
-  again = some-start _;
-}
-
-module _ (acts quals : List ℕ) (seen : List Bool) (twice : Bool) (i : ℕ) (o : Seen acts quals seen twice i) where
-  mark : (a b : ℕ) (e : Bool) → a < 256 → b < 256 → eqb a b ≡ e → getD (set seen a true) b false ≡ getD seen b false || e
-  mark a b true ha hb e =
-      let l = o .long in
-      let q = eqb-true a b e in
-      rw (q) (getD-set-same seen b true false (omega arith) ∙ sym (or-true (getD seen b false)))
-  mark a b false ha hb e = getD-set-other seen a b true false (λ q. eqb-false a b e (sym q)) ∙ sym (or-false (getD seen b false))
-
-  pub one-seen : (a : ℕ) → true ≡ timed (getD quals i 0) → a ≡ getD acts i 0 → a < 256 → Seen acts quals (set seen a true) (twice || getD seen a false) (i + 1)
-  unfolding timedFor
-  one-seen a e q h = record {
-    long = length-set seen a true ∙ o .long;
-    marks = λ b hb. mark a b _ h hb refl ∙ some-turn _ i (o .marks b hb) (ap₂ (λ (x : Bool) (y : ℕ). x && eqb y b) e q);
-    again = some-turn _ i (o .again) (ap₂ _&&_ e (o .marks a h ∙ ap (λ (x : ℕ). timedFor acts quals x i) q));
-  }
-
-  -- a block that is not timed changes nothing
-  pub not-seen : false ≡ timed (getD quals i 0) → Seen acts quals seen twice (i + 1)
-  unfolding timedFor
-  not-seen e = record {
-    long = o .long;
-    marks = λ b hb. sym (or-false (getD seen b false)) ∙ some-turn _ i (o .marks b hb) (ap (λ (x : Bool). x && eqb (getD acts i 0) b) e);
-    again = sym (or-false twice) ∙ some-turn _ i (o .again) (ap (λ (x : Bool). x && timedFor acts quals (getD acts i 0) i) e);
-  }
-
--- a block, timed or not, without a branch
-pub see : {acts quals : List ℕ} {seen : List Bool} {twice : Bool} {i : ℕ} → Seen acts quals seen twice i
-    → (t : Bool) (a : ℕ) → t ≡ timed (getD quals i 0) → a ≡ getD acts i 0 → a < 256 → Seen acts quals (set seen a (t || getD seen a false)) (twice || (t && getD seen a false)) (i + 1)
-see o true a e q h = one-seen _ _ _ _ _ o a e q h
-see {acts} {quals} {seen} {twice} {i} o false a e q h = rw (set-getD seen a false, or-false twice) (not-seen acts quals seen twice i o e)
-
--- blocks of which none is timed
-pub pass-over : {acts quals : List ℕ} {seen : List Bool} {twice : Bool} {i : ℕ} → Seen acts quals seen twice i
-    → (k : ℕ) → ((j : ℕ) → i ≤ j → j < i + k → timed (getD quals j 0) ≡ false) → Seen acts quals seen twice (i + k)
-pass-over {acts} {quals} {seen} {twice} {i} o zero h = rw (add-zero i) o
-pass-over {acts} {quals} {seen} {twice} {i} o (suc k) h =
-    let r = not-seen acts quals seen twice (i + k) (pass-over o k (λ j a b. h j a (omega arith))) (sym (h (i + k) (omega arith) (omega arith))) in
-    let e : i + k + 1 ≡ i + suc k = omega arith in
-    rw e at r
-
--- none of the sixteen from a place on
-pub none-timed : (quals : List ℕ) (at : ℕ) {any : Bool} → any ≡ some (λ k. timed (getD quals (at + k) 0)) 16 → any ≡ false
-    → (j : ℕ) → at ≤ j → j < at + 16 → timed (getD quals j 0) ≡ false
-none-timed quals at e f j a b =
-    let h : at + (j - at) ≡ j = omega arith in
-    let r = some-none (λ k. timed (getD quals (at + k) 0)) 16 (sym e ∙ f) (j - at) (omega arith) in
-    rw h at r
 
 -- ---- tables with the same actions and the same timed blocks
 

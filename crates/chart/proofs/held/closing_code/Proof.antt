@@ -10,33 +10,25 @@ within-requires c κs = search needs
 some-initial-requires : tie.Need-some-initial-requires
 some-initial-requires c κs = search needs
 
-unless-requires : tie.Need-unless-requires
-unless-requires c κs = search needs
-
 within-requires-2 : tie.Need-within-requires-2
 within-requires-2 c κs = search needs
 
 timed-twice-requires : tie.Need-timed-twice-requires
 timed-twice-requires c κs = search needs
 
-unless-requires-2 : tie.Need-unless-requires-2
-unless-requires-2 c κs = search needs
-
-or-else-requires : tie.Need-or-else-requires
-or-else-requires c κs = search needs
+closing-requires : tie.Need-closing-requires
+closing-requires c κs = search needs
 
 returns : tie.Need-returns
 returns c =
-    let twice = c .before .before in
-    let none = twice .before .before .before in
+    let twice = c .before in
+    let initial = twice .before .before .before in
     rw (
-      c .or-else .ensures,
-      c .before .unless2 .ensures,
+      c .closing .ensures,
       twice .timed-twice .ensures,
       twice .before .within2 .ensures,
-      none .unless .ensures,
-      none .before .some-initial .ensures,
-      none .before .before .within .ensures,
+      initial .some-initial .ensures,
+      initial .before .within .ensures,
       initial-within,
       twice-within,
     )
@@ -47,9 +39,7 @@ closing-code-spec =
     (tie.spec
     within-requires
     some-initial-requires
-    unless-requires
     within-requires-2
     timed-twice-requires
-    unless-requires-2
-    or-else-requires
+    closing-requires
     returns)

@@ -1,8 +1,11 @@
 -- The limits hold or the answer is 4; then by its callees' statements, the last call first.
+use denote.Ref.{now}
 use mathlib.Core.Path.{sym, _∙_}
+use mathlib.Core.Bool.{not}
 use borrow.Author.Tests.{not-true, not-false}
+use Rattle.fields.specs.Fields.{unless}
 use Rattle.chart.specs.Held.{heldCode}
-use Rattle.chart.proofs.held.Laws.{Limits, limits}
+use Rattle.chart.proofs.held.Laws.{Limits, limits, marks-code}
 use borrow.Author.Needs.{needs}
 use Rattle.chart.proofs.held.held_code.Statement.{statement}
 use Rattle.chart.proofs.held.held_code.Tie as tie
@@ -17,23 +20,32 @@ returns : tie.Need-returns
 unfolding heldCode
 returns c = rw (sym (c .before .limits-fit .ensures) ∙ not-true _ (c .if1 .taken))
 
-steps-code-requires : tie.Need-steps-code-requires
-steps-code-requires c κs = kept c .steps
+largest-requires : tie.Need-largest-requires
+largest-requires c κs = let k = kept (c .before) .steps in search needs
+
+step-fits-requires : tie.Need-step-fits-requires
+step-fits-requires c κs = search needs
+
+unless-requires : tie.Need-unless-requires
+unless-requires c κs = search needs
 
 actions-code-requires : tie.Need-actions-code-requires
-actions-code-requires c κs = kept (c .before) .actions
+actions-code-requires c κs = kept (c .before .before .before .before) .actions
 
 transitions-code-requires : tie.Need-transitions-code-requires
-transitions-code-requires c κs = kept (c .before .before) .transitions
+transitions-code-requires c κs = kept (c .before .before .before .before .before) .transitions
 
 blocks-code-requires : tie.Need-blocks-code-requires
-blocks-code-requires c κs = let k = kept (c .before .before .before) in (k .blocks, k .steps, k .actions)
+blocks-code-requires c κs = let k = kept (c .before .before .before .before .before .before) in (k .blocks, k .steps, k .actions)
 
 cases-code-requires : tie.Need-cases-code-requires
-cases-code-requires c κs = let k = kept (c .before .before .before .before) in (k .cases, k .steps, k .actions)
+cases-code-requires c κs = let k = kept (c .before .before .before .before .before .before .before) in (k .cases, k .steps, k .actions)
 
-closing-code-requires : tie.Need-closing-code-requires
-closing-code-requires c κs = search needs
+timed-twice-requires : tie.Need-timed-twice-requires
+timed-twice-requires c κs = kept (c .before .before .before .before .before .before .before .before) .blocks
+
+closing-requires : tie.Need-closing-requires
+closing-requires c κs = search needs
 
 or-else-requires : tie.Need-or-else-requires
 or-else-requires c κs = search needs
@@ -54,8 +66,15 @@ returns-2 : tie.Need-returns-2
 unfolding heldCode
 returns-2 c =
     let closing = c .before .before .before .before .before in
-    let transitions = closing .before .before .before in
-    let limited = transitions .before .before .before in
+    let twice = closing .before in
+    let cases = twice .before in
+    let blocks = cases .before in
+    let transitions = blocks .before in
+    let actions = transitions .before in
+    let fit = actions .before in
+    let mark = fit .before .before in
+    let limited = mark .before .before in
+    let a = limited .before .before .args in
     rw (
       sym (limited .before .limits-fit .ensures) ∙ not-false _ (limited .if1 .left),
       c .or-else5 .ensures,
@@ -63,13 +82,19 @@ returns-2 c =
       c .before .before .or-else3 .ensures,
       c .before .before .before .or-else2 .ensures,
       c .before .before .before .before .or-else .ensures,
-      closing .closing-code .ensures,
-      closing .before .cases-code .ensures,
-      closing .before .before .blocks-code .ensures,
-      transitions .transitions-code .ensures,
-      transitions .before .actions-code .ensures,
-      transitions .before .before .steps-code .ensures,
+      closing .closing .ensures,
+      fit .unless .ensures,
+      fit .before .step-fits .ensures,
+      mark .largest .ensures,
     )
+    (marks-code (a .steps) (now (a .initial)) (actions .actions-code .result) (transitions .transitions-code .result) (blocks .blocks-code .result) (cases .cases-code .result) (unless (not (twice .timed-twice .result)) 8)
+    ∙ rw (
+      twice .timed-twice .ensures,
+      cases .cases-code .ensures,
+      blocks .blocks-code .ensures,
+      transitions .transitions-code .ensures,
+      actions .actions-code .ensures,
+    ))
 
 pub held-code-spec : {M : Type 1} → statement M
 held-code-spec =
@@ -77,12 +102,15 @@ held-code-spec =
     (tie.spec
     limits-fit-requires
     returns
-    steps-code-requires
+    largest-requires
+    step-fits-requires
+    unless-requires
     actions-code-requires
     transitions-code-requires
     blocks-code-requires
     cases-code-requires
-    closing-code-requires
+    timed-twice-requires
+    closing-requires
     or-else-requires
     or-else-requires-2
     or-else-requires-3
