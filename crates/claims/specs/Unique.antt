@@ -20,11 +20,12 @@ use Rattle.chart.specs.declared.chart.Chart.{Chart}
 use Rattle.chart.proofs.Unique.{no-chart-unique, at-most-unique, index-of-unique, closing-code-unique, held-code-unique, chart-code-unique, initial-of-unique}
 use Rattle.reader.specs.Numbers.{leFrom}
 use Rattle.reader.specs.Framing.{Answers}
-use Rattle.reader.specs.Reading.{readChart}
+use Rattle.reader.specs.Reading.{readChart, Tables, readingOf}
 use Rattle.reader.specs.declared.framing.Next.{Next}
+use Rattle.reader.specs.declared.reading.Read.{Read}
 use Rattle.reader.specs.declared.reading.Reading.{Reading}
 use Rattle.reader.proofs.framing.Laws.{record-at-unique}
-use Rattle.reader.proofs.Unique.{from-unique, signed-unique, bits-of-unique, read-chart-unique}
+use Rattle.reader.proofs.Unique.{from-unique, signed-unique, bits-of-unique, read-chart-unique, read-into-unique}
 use Rattle.choice.specs.Choice.{choosing}
 use Rattle.choice.specs.declared.Choice.{Choice}
 use Rattle.choice.proofs.Unique.{choose-one-unique}
@@ -71,7 +72,7 @@ use Rattle.report.proofs.Unique.{opening-unique, print-next-unique}
 abbrev pub One : {A : Type 0} → (A → Type 0) → Type 0
 One {A} allowed = (r q : A) → allowed r → allowed q → r ≡ q
 
--- and so is what two answers leave in a lent slice
+-- and so is what two answers leave in a lent slice, or in lent tables
 abbrev pub Both : {A B : Type 0} → (A → B → Type 0) → Type 0
 Both {A} {B} allowed = (r q : A) (f g : B) → allowed r f → allowed q g → (r ≡ q) × (f ≡ g)
 
@@ -126,6 +127,7 @@ pub record ReaderUnique : Type 0 where
   pub signed : (x : ℕ) → One (λ (r : ℤ). r ≡ toZ w32 x)
   pub bits-of : (v : ℤ) → One (λ (r : ℕ). r ≡ ofZ w32 v)
   pub read-chart : (bytes : List ℕ) → One (λ (r : Reading). r ≡ readChart bytes)
+  pub read-into : (bytes : List ℕ) → Both (λ (r : Read) (exit : Tables). readingOf r exit ≡ readChart bytes)
 
 -- choice/src/lib.rt
 pub record ChoiceUnique : Type 0 where
@@ -256,6 +258,7 @@ unique = record {
     signed = signed-unique;
     bits-of = bits-of-unique;
     read-chart = read-chart-unique;
+    read-into = read-into-unique;
   };
   choice = record { choose-one = choose-one-unique };
   acting = record { asks = asks-unique; put = put-unique; act = act-unique };

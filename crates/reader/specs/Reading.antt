@@ -60,12 +60,12 @@ readFrom (suc more) s at before c =
 abbrev pub readChart : List ℕ → Reading
 readChart s = readFrom (length s + 1) s 0 0 noChart
 
--- the tables that a chart is read into, in the order of its fields
+-- the tables that are lent to a reading, in the order of the chart's fields
 abbrev pub Tables : Type 0
 Tables =
     List ℕ × List ℕ × List ℤ × List ℕ × List ℕ × List ℕ × List ℕ × List ℕ × List ℕ × List ℕ × List ℕ × List ℕ × List ℕ × List ℕ × List ℕ
 
--- the reading whose chart lies in tables
+-- a reading into lent tables: its answer, and the chart that they hold
 abbrev pub readingOf : Read → Tables → Reading
 readingOf r (initial, output, value, sources, targets, on, off, wait, blockstep, blockaction, qualifier, duration, casestep, signal, expected) = record {
   code = r .code;

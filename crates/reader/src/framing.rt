@@ -1,6 +1,5 @@
 // One record: its head, and where its body stands (document 01, "A manufacturer's tool may take the reader by itself").
 ghost use mathlib.Core.Path.{_≡_};
-ghost use Prim.Native.Nat.{_≤_};
 ghost use Rattle.reader.specs.Framing.{bodyLength, kindFits, headNumber, Answers};
 use crate::codes::BAD_KIND;
 use crate::codes::BAD_LENGTH;
@@ -27,22 +26,28 @@ fn kind_fits(kind: u16, before: u16) -> bool
 }
 
 fn body_length(kind: u16) -> u16
-    requires { ⌜ kind ≤ 5 ⌝ }
     ensures { λ r. ⌜ r ≡ bodyLength kind ⌝ }
 {
     match kind {
-        0 => 0,
         1 => 1,
         2 => 5,
         3 => 36,
         4 => 7,
-        _ => 3,
+        5 => 3,
+        _ => 0,
     }
 }
 
 fn head_code(length: u16, kind: u16, rest: usize, before: u16) -> u8
     ensures { λ r. ⌜ r ≡ headNumber length kind rest before ⌝ }
 {
+    // The end is told apart first, so that no test of the others asks for it.
+    if kind == 0 {
+        if length != 0 {
+            return BAD_LENGTH;
+        }
+        return 0;
+    }
     if !kind_fits(kind, before) {
         return BAD_KIND;
     }

@@ -25,7 +25,8 @@ pub struct Reading {
     pub chart: Chart,
 }
 
-// The fields are stored where the caller has the tables, so that no chart is copied. Each kind is judged in its own arm, so that the kind is asked once.
+// The fields are stored in the tables that the caller lends, so that no chart is copied. Each kind is judged in its own arm, so that the kind is
+// asked once; a letter stands for the field that it is stored in. A refusal leaves the loop, so that one place clears the tables again.
 pub fn read_into(
     bytes: &[u8],
     initial: &mut [u8; 64],
@@ -46,6 +47,7 @@ pub fn read_into(
 ) -> Read
     ensures { λ r. ⌜ readingOf r (now (initial .exit), now (output .exit), now (value .exit), now (sources .exit), now (targets .exit), now (on .exit), now (off .exit), now (wait .exit), now (blockstep .exit), now (blockaction .exit), now (qualifier .exit), now (duration .exit), now (casestep .exit), now (signal .exit), now (expected .exit)) ≡ readChart (now (bytes .entry)) ⌝ }
 {
+    // The tables may hold anything.
     *initial = [0u8; 64];
     *output = [0u8; 32];
     *value = [0i32; 32];
@@ -68,6 +70,7 @@ pub fn read_into(
     let mut cases: usize = 0;
     let mut at: usize = 0;
     let mut before: u16 = 0;
+    // What a refused reading answers.
     let mut code: u8;
     let mut place: usize;
     loop {
@@ -189,6 +192,7 @@ pub fn read_into(
     }
 }
 
+// The same by value: the chart is made of tables of its own, and copied into the answer.
 pub fn read_chart(bytes: &[u8]) -> Reading
     ensures { λ r. ⌜ r ≡ readChart (now (bytes .entry)) ⌝ }
 {

@@ -1,5 +1,5 @@
--- The invariant: reading on from here gives the whole answer. Each turn goes past a head, so the bytes that are left fall. A refused reading leaves the
--- loop from eight places, which meet behind it.
+-- The invariant: reading on from here gives the whole answer. Each turn goes past a head, so the bytes that are left fall. Refusals leave the loop
+-- from eight places, which meet behind it.
 use mir.Val.{SFits}
 use mir.Syntax.{w32}
 use mir.Facts.{toZ-ofZ}
@@ -118,6 +118,7 @@ enum-known-body c = search needs
 step-code-requires : tie.Need-step-code-requires Inv-loop μ-loop
 step-code-requires c κs = search needs
 
+-- here and below: a record that is let in has room
 step-fits : (c : tie.Else3 Inv-loop μ-loop) → turn (c .before .before .before .before .before) .loop .steps < 64
 step-fits c = fits (c .before .before .before .before .before) (c .before .before .before .body .given .1) (c .before .step-code .ensures) (c .if3 .left)
 
@@ -270,7 +271,7 @@ loop-less-5 c = shrinks (c .before .before .before .before .before)
 loop-again-5 : tie.Need-loop-again-5 Inv-loop μ-loop
 loop-again-5 c = goes-on (c .before .before .before .before .before) (c .before .before .before .body5 .given .1) (c .before .case-code .ensures) (c .if7 .left)
 
--- a refusal, at each of the eight places
+-- a refusal is the whole answer, from each of the eight places
 stopped : (c : tie.At-match-came Inv-loop μ-loop) → refused (c .match .code) (c .match .place) ≡ readChart (bytes (c .before .before))
 stopped c =
     let b = c .before in
