@@ -5,7 +5,7 @@
   tests/held_calls.py --check   say whether they are what this file says
 
 Each case is an image of a chart, an image of a run and a call, and its line. The lines are derived from documents 01 and 02 by hand;
-nothing here runs the engine. tests/compare.py makes its images with the functions below.
+nothing here runs the engine. tests/cases.rs makes random cases of the same form.
 
 Images, the least byte of each number first: every field of the chart and of the run in full length, as the tables CHART and RUN
 have them. The call: kind (0 start, 1 cycle, 2 tally, 3 weighing, 4 writing, 5 shift), clock, inputs, number of lent outputs,

@@ -1,0 +1,1338 @@
+// The engine beside the second implementation (tests/second.rs): random cases for both, the comparison of what they answer, and the count of
+// what the cases reached. tests/compare.py builds and starts it:
+//
+//   cases SEED CASES FOLDER SECOND -- WORDS OF THE DRIVER -- WORDS OF BENCH_RUN [-- WORDS OF ANOTHER BENCH_RUN ..]
+//
+// Behind the driver's words comes what it is to do: read_charts, write_back or held_calls; tests/read_charts.py, tests/write_back.py and
+// tests/held_calls.py have the forms of its input and output. Charts and traces have the form of document 01. No answer is worked out here:
+// what both say alike passes, and what was reached is counted from requests and answers. A case depends on the seed and its own number alone.
+
+use std::cell::Cell;
+use std::collections::BTreeMap;
+use std::io::Write;
+use std::ops::{Index, IndexMut, Range};
+use std::path::{Path, PathBuf};
+use std::process::{exit, Command, Stdio};
+use std::sync::atomic::{AtomicBool, AtomicU64, Ordering};
+use std::time::Instant;
+use std::{env, fs, thread};
+use Field::*;
+
+// ---------------------------------------------------------------------------------------------
+// Random numbers, and sets as 64-bit words: bit k is number k
+// ---------------------------------------------------------------------------------------------
+
+// Splitmix64. It changes in its place, so that one choice can stand within another.
+struct Rng(Cell<u64>);
+
+impl Rng {
+    // Of one case, from a hash of its name (FNV-1a).
+    fn of(what: &str, seed: u64, number: u64) -> Rng {
+        let mixed = |hash: u64, byte: u8| (hash ^ u64::from(byte)).wrapping_mul(0x100_0000_01b3);
+        Rng(Cell::new(format!("{what} {seed} {number}").bytes().fold(0xcbf2_9ce4_8422_2325, mixed)))
+    }
+
+    fn any(&self) -> u64 {
+        self.0.set(self.0.get().wrapping_add(0x9e37_79b9_7f4a_7c15));
+        let mixed = (self.0.get() ^ self.0.get() >> 30).wrapping_mul(0xbf58_476d_1ce4_e5b9);
+        let mixed = (mixed ^ mixed >> 27).wrapping_mul(0x94d0_49bb_1331_11eb);
+        mixed ^ mixed >> 31
+    }
+
+    fn below(&self, many: usize) -> usize {
+        (self.any() % many as u64) as usize
+    }
+
+    // Both ends are possible.
+    fn between(&self, least: i64, most: i64) -> i64 {
+        least + (self.any() % (most - least + 1) as u64) as i64
+    }
+
+    // True in so many of a hundred cases.
+    fn chance(&self, percent: usize) -> bool {
+        self.below(100) < percent
+    }
+
+    fn pick<T: Copy>(&self, among: &[T]) -> T {
+        among[self.below(among.len())]
+    }
+}
+
+fn has(set: u64, k: u64) -> bool {
+    k < 64 && set >> k & 1 == 1
+}
+
+fn members(set: u64) -> Vec<usize> {
+    (0..64).filter(|k| set >> k & 1 == 1).collect()
+}
+
+// All numbers below this one.
+fn numbers(many: usize) -> u64 {
+    (0..many.min(64)).map(|k| 1 << k).sum()
+}
+
+// Some of them, possibly none.
+fn chosen(rng: &Rng, among: u64, most: usize) -> u64 {
+    let mut left = members(among);
+    let many = rng.below(left.len().min(most) + 1);
+    (0..many).map(|_| 1 << left.swap_remove(rng.below(left.len()))).sum()
+}
+
+// ---------------------------------------------------------------------------------------------
+// What a chart and a run are made of (document 01, "The chart and its bytes")
+// ---------------------------------------------------------------------------------------------
+
+// "Waits and durations are at most 86,400,000."
+const DAY: i64 = 86_400_000;
+// "11 | elapsed time above 60,000 ms"
+const MINUTE: i64 = 60_000;
+// "the free-running 32-bit millisecond clock"
+const TURN: i64 = 1 << 32;
+
+// The fields of a held chart, then of a held run, in the order of a request.
+#[rustfmt::skip]
+#[derive(Clone, Copy, Debug, PartialEq)]
+enum Field {
+    Steps, Actions, Transitions, Blocks, Cases, Initial, Output, Value, Sources, Targets, On, Off, Wait,
+    BlockStep, BlockAction, Qualifier, Duration, CaseStep, Signal, Expected,
+    Clock, Active, Activity, Stored, Latched, Counters, Timers, Good, Bad,
+}
+
+// Of each field the bytes that a number takes, and how many numbers there are.
+#[rustfmt::skip]
+const LAYOUT: [(Field, usize, usize); 29] = [
+    (Steps, 8, 1), (Actions, 8, 1), (Transitions, 8, 1), (Blocks, 8, 1), (Cases, 8, 1),
+    (Initial, 1, 64), (Output, 1, 32), (Value, 4, 32),
+    (Sources, 8, 64), (Targets, 8, 64), (On, 8, 64), (Off, 8, 64), (Wait, 4, 64),
+    (BlockStep, 1, 256), (BlockAction, 1, 256), (Qualifier, 1, 256), (Duration, 4, 256),
+    (CaseStep, 1, 64), (Signal, 1, 64), (Expected, 1, 64),
+    (Clock, 4, 1), (Active, 8, 1), (Activity, 8, 1), (Stored, 8, 1), (Latched, 8, 1),
+    (Counters, 4, 64), (Timers, 4, 32), (Good, 8, 1), (Bad, 8, 1),
+];
+// the chart's fields end here, and the run's begin
+const RUN: usize = Clock as usize;
+
+// A kind of record: the field with its count, the most there may be, and the fields of its body.
+struct Kind {
+    count: Field,
+    limit: usize,
+    fields: &'static [Field],
+}
+
+const KINDS: [Kind; 5] = [
+    Kind { count: Steps, limit: 64, fields: &[Initial] },
+    Kind { count: Actions, limit: 32, fields: &[Output, Value] },
+    Kind { count: Transitions, limit: 64, fields: &[Sources, Targets, On, Off, Wait] },
+    Kind { count: Blocks, limit: 256, fields: &[BlockStep, BlockAction, Qualifier, Duration] },
+    Kind { count: Cases, limit: 64, fields: &[CaseStep, Signal, Expected] },
+];
+// places in KINDS: one less than the kind's number in a file
+const STEP: usize = 0;
+const ACTION: usize = 1;
+const TRANSITION: usize = 2;
+const BLOCK: usize = 3;
+const CASE: usize = 4;
+
+const NAMES: [&str; 11] = ["N", "R", "S", "L", "D", "P", "SD", "DS", "SL", "P1", "P0"];
+const N: u64 = 0;
+const R: u64 = 1;
+const S: u64 = 2;
+const L: u64 = 3;
+const D: u64 = 4;
+const P: u64 = 5;
+const SD: u64 = 6;
+const DS: u64 = 7;
+const SL: u64 = 8;
+const P1: u64 = 9;
+const P0: u64 = 10;
+const TIMED: [u64; 5] = [L, D, SD, DS, SL];
+const UNTIMED: [u64; 6] = [N, R, S, P, P1, P0];
+
+fn width_of(field: Field) -> usize {
+    LAYOUT[field as usize].1
+}
+
+// The largest number of so many bytes.
+fn largest(width: usize) -> u64 {
+    u64::MAX >> (64 - 8 * width)
+}
+
+fn put(bytes: &mut Vec<u8>, number: u64, width: usize) {
+    bytes.extend_from_slice(&number.to_le_bytes()[..width]);
+}
+
+fn number_at(bytes: &[u8], place: usize, width: usize) -> u64 {
+    bytes[place..place + width].iter().rev().fold(0, |number, byte| number << 8 | u64::from(*byte))
+}
+
+// A record with these numbers in its body, each with its width.
+fn record(kind: u64, body: impl IntoIterator<Item = (u64, usize)>) -> Vec<u8> {
+    let mut bytes = Vec::with_capacity(40);
+    put(&mut bytes, 0, 2);
+    put(&mut bytes, kind, 2);
+    body.into_iter().for_each(|(number, width)| put(&mut bytes, number, width));
+    bytes[0] = bytes.len() as u8 - 4; // no body has more than 36 bytes
+    bytes
+}
+
+// ---------------------------------------------------------------------------------------------
+// Random charts
+// ---------------------------------------------------------------------------------------------
+
+// The fields of a body in their order, and zeros behind them; a value by its 32 bits.
+type Record = [u64; 5];
+// A chart's records by kind.
+type Chart = [Vec<Record>; 5];
+
+// How many records of each kind: mostly a few, sometimes more, sometimes all that may be.
+fn sizes(rng: &Rng) -> [usize; 5] {
+    let most = match rng.below(20) {
+        0..=12 => [5, 5, 8, 9, 6],
+        13..=17 => [20, 12, 30, 60, 30],
+        _ => return KINDS.map(|kind| kind.limit - usize::from(rng.chance(20))),
+    };
+    let mut many = most.map(|limit| rng.below(limit + 1));
+    many[STEP] = 1 + rng.below(most[STEP]);
+    many
+}
+
+// The waits and durations of one chart: few different ones, so that several end together.
+fn times(rng: &Rng) -> [u64; 5] {
+    let long = rng.pick(&[rng.between(5000, 59_999), 60_000, rng.between(60_001, DAY), DAY]);
+    [0, 1, rng.between(2, 99) as u64, rng.between(100, 5000) as u64, long as u64]
+}
+
+// One of few inputs, so that transitions share them, or an action's activity.
+fn signal(rng: &Rng, actions: usize) -> u64 {
+    if actions == 0 || rng.chance(80) {
+        return rng.pick(&[0, 0, 1, 1, 2, 31]);
+    }
+    32 + rng.below(actions) as u64
+}
+
+// From one step to another, or a fork, a join or both. Where steps are few, transitions are often rivals.
+fn transition(rng: &Rng, steps: usize, actions: usize, due: &[u64]) -> Record {
+    let from = rng.below(steps);
+    let to = (from + 1 + rng.below(steps - 1)) % steps;
+    let (source, target) = (1 << from, 1 << to);
+    let others = if rng.chance(40) { chosen(rng, numbers(steps) & !(source | target), 3) } else { 0 };
+    let sources = source | others & rng.any();
+    let on = if rng.chance(70) { 1 << signal(rng, actions) } else { 0 };
+    let off = if rng.chance(30) { 1 << signal(rng, actions) & !on } else { 0 };
+    let wait = if rng.chance(45) { 0 } else { rng.pick(due) };
+    [sources, (target | others) & !sources, on, off, wait]
+}
+
+// "An action has at most one timed block."
+fn blocks(rng: &Rng, many: usize, steps: usize, actions: usize, due: &[u64]) -> Vec<Record> {
+    let (mut found, mut with_timed) = (Vec::new(), 0);
+    for _ in 0..if actions > 0 { many } else { 0 } {
+        let (step, action, mut q) = (rng.below(steps) as u64, rng.below(actions) as u64, rng.below(11) as u64);
+        if TIMED.contains(&q) && has(with_timed, action) {
+            q = rng.pick(&UNTIMED);
+        }
+        let timed = TIMED.contains(&q);
+        with_timed |= u64::from(timed) << action;
+        found.push([step, action, q, if timed { rng.pick(due) } else { 0 }, 0]);
+    }
+    found
+}
+
+fn random_chart(rng: &Rng) -> Chart {
+    let [steps, actions, transitions, many, cases] = sizes(rng);
+    let (due, first, outputs) = (times(rng), rng.below(steps), if rng.chance(70) { 3 } else { 32 });
+    let values = [0, 1, 0x7fff_ffff, 0x8000_0000, 0xffff_ffff, rng.any() % TURN as u64];
+    [
+        (0..steps).map(|k| [u64::from(k == first || rng.chance(25)), 0, 0, 0, 0]).collect(),
+        (0..actions).map(|_| [rng.below(outputs) as u64, rng.pick(&values), 0, 0, 0]).collect(),
+        (0..if steps > 1 { transitions } else { 0 }).map(|_| transition(rng, steps, actions, &due)).collect(),
+        blocks(rng, many, steps, actions, &due),
+        (0..cases).map(|_| [rng.below(steps) as u64, signal(rng, actions), rng.any() % 2, 0, 0]).collect(),
+    ]
+}
+
+// The chart's records as bytes, and the end record.
+fn records(chart: &Chart) -> Vec<Vec<u8>> {
+    let mut found = Vec::new();
+    for (kind, number) in KINDS.iter().zip(1..) {
+        for fields in &chart[number - 1] {
+            found.push(record(number as u64, fields.iter().copied().zip(kind.fields.iter().map(|field| width_of(*field)))));
+        }
+    }
+    found.push(record(0, []));
+    found
+}
+
+fn file_of(chart: &Chart) -> Vec<u8> {
+    records(chart).concat()
+}
+
+// The waits and durations that a counter or a timer may reach.
+fn due_times(chart: &Chart) -> Vec<u64> {
+    let timed = chart[BLOCK].iter().filter(|block| TIMED.contains(&block[2])).map(|block| block[3]);
+    let mut due: Vec<u64> = chart[TRANSITION].iter().map(|transition| transition[4]).chain(timed).chain([0]).collect();
+    due.sort_unstable();
+    due.dedup();
+    due
+}
+
+// ---------------------------------------------------------------------------------------------
+// Random traces. Clocks count on here, and are read modulo 2^32.
+// ---------------------------------------------------------------------------------------------
+
+fn reading(clock: i64) -> u64 {
+    clock.rem_euclid(TURN) as u64
+}
+
+fn is_accepted(last: i64, clock: i64) -> bool {
+    (0..=MINUTE).contains(&(clock - last))
+}
+
+// Elapsed time that is refused: the clock one back, the least that is too much, or any.
+fn refused_gap(rng: &Rng) -> i64 {
+    rng.pick(&[-1, MINUTE + 1, rng.between(MINUTE + 1, TURN - 1)])
+}
+
+// A clock that puts some counter or timer at a wait or duration, one below or one above; or one of the limits; or any.
+fn clock_after(rng: &Rng, last: i64, calls: &[i64], due: &[u64]) -> i64 {
+    match rng.below(30) {
+        0..=17 => {
+            let since = &calls[calls.len().saturating_sub(6)..];
+            let ends = since.iter().flat_map(|call| due.iter().map(move |time| call + *time as i64));
+            let near = ends.flat_map(|end| [end - 1, end, end + 1]).filter(|clock| is_accepted(last, *clock));
+            rng.pick(&near.chain([last]).collect::<Vec<i64>>())
+        }
+        18..=26 => last + rng.pick(&[0, 1, rng.between(2, 200), rng.between(200, MINUTE)]),
+        27 => last + rng.pick(&[MINUTE - 1, MINUTE]),
+        _ => last + refused_gap(rng),
+    }
+}
+
+// Mostly those that the wanted transition asks for, or any.
+fn inputs_for(rng: &Rng, chart: &Chart, wanted: Option<Record>) -> u64 {
+    let inputs = rng.pick(&[0, 1, 2, 3, 5, rng.any()]) & numbers(32);
+    if chart[TRANSITION].is_empty() || rng.chance(30) {
+        return inputs;
+    }
+    let [_, _, on, off, _] = wanted.unwrap_or_else(|| rng.pick(&chart[TRANSITION]));
+    (inputs | on) & !off & numbers(32)
+}
+
+fn start_record(clock: i64) -> Vec<u8> {
+    record(17, [(reading(clock), 4)])
+}
+
+fn cycle_record(clock: i64, inputs: u64) -> Vec<u8> {
+    record(16, [(reading(clock), 4), (inputs, 4)])
+}
+
+fn random_trace(rng: &Rng, chart: &Chart) -> Vec<Vec<u8>> {
+    let mut last = rng.pick(&[0, 1000, rng.between(0, TURN - 1), TURN - 1, TURN - rng.between(2, 70_000)]);
+    let (mut calls, mut found, due) = (vec![last], vec![start_record(last)], due_times(chart));
+    for _ in 0..rng.pick(&[0, 1, rng.between(2, 12), rng.between(5, 30)]) {
+        let clock = clock_after(rng, last, &calls, &due);
+        found.push(cycle_record(clock, inputs_for(rng, chart, None)));
+        if is_accepted(last, clock) {
+            last = clock;
+            calls.push(clock);
+        }
+    }
+    found
+}
+
+// ---------------------------------------------------------------------------------------------
+// Damage, to the fields of a chart or to the bytes of records
+// ---------------------------------------------------------------------------------------------
+
+// A number at or near a limit, within what the field can hold.
+fn boundary(rng: &Rng, width: usize, old: u64, near: &[u64]) -> u64 {
+    let (most, power) = (largest(width), 1 << rng.below(8 * width));
+    let around = |limit: u64| [limit.wrapping_sub(1), limit, limit.wrapping_add(1)];
+    let mut values = vec![0, 1, most, power, power - 1, old ^ power];
+    values.extend(around(old).into_iter().chain(near.iter().copied().flat_map(around)));
+    values.retain(|value| *value <= most && *value != old);
+    rng.pick(&values)
+}
+
+// A kind of which the chart has records.
+fn some_kind(rng: &Rng, chart: &Chart) -> usize {
+    rng.pick(&(STEP..=CASE).filter(|kind| !chart[*kind].is_empty()).collect::<Vec<usize>>())
+}
+
+// One field of one record at or near a limit; also a step that is source and target, a signal in both sets.
+fn alter_field(rng: &Rng, chart: &mut Chart) {
+    let (steps, actions) = (chart[STEP].len(), chart[ACTION].len());
+    let kind = some_kind(rng, chart);
+    let (k, i) = (rng.below(chart[kind].len()), rng.below(KINDS[kind].fields.len()));
+    let width = width_of(KINDS[kind].fields[i]);
+    let near = match width {
+        8 => vec![numbers(steps), numbers(32 + actions)],
+        4 => vec![DAY as u64],
+        _ => vec![steps as u64, actions as u64, 32 + actions as u64, 64, 10],
+    };
+    let fields = &mut chart[kind][k];
+    fields[i] = boundary(rng, width, fields[i], &near);
+    if kind == TRANSITION && rng.chance(30) {
+        let (a, b) = rng.pick(&[(0, 1), (2, 3)]);
+        fields[a] |= fields[b];
+    }
+}
+
+// As many of a kind as may be, or one more.
+fn too_many(rng: &Rng, chart: &mut Chart) {
+    let kind = some_kind(rng, chart);
+    chart[kind] = chart[kind].iter().copied().cycle().take(KINDS[kind].limit + rng.below(2)).collect();
+}
+
+fn no_initial(rng: &Rng, chart: &mut Chart) {
+    chart[STEP] = vec![[0; 5]; rng.below(chart[STEP].len() + 1)];
+    if rng.chance(50) {
+        chart[TRANSITION..].iter_mut().for_each(Vec::clear);
+    }
+}
+
+fn timed_twice(rng: &Rng, chart: &mut Chart) {
+    chart[BLOCK].truncate(KINDS[BLOCK].limit - 2);
+    let action = rng.below(chart[ACTION].len().max(1)) as u64;
+    for _ in 0..2 {
+        let step = rng.below(chart[STEP].len()) as u64;
+        chart[BLOCK].push([step, action, rng.pick(&TIMED), rng.pick(&[0, 5, DAY as u64]), 0]);
+    }
+}
+
+// A record replaced, doubled, moved, left out, or with another length or kind in its head.
+fn moved_records(rng: &Rng, mut parts: Vec<Vec<u8>>) -> Vec<u8> {
+    let (i, j) = (rng.below(parts.len()), rng.below(parts.len()));
+    let part = parts[i].clone();
+    match rng.below(5) {
+        0 => parts[j] = part,
+        1 => parts.insert(j, part),
+        2 => {
+            parts.remove(i);
+            parts.insert(j, part);
+        }
+        3 => drop(parts.remove(i)),
+        _ => {
+            let place = rng.pick(&[0, 2]);
+            let other = boundary(rng, 2, number_at(&part, place, 2), &[5, 16, 17, 256]);
+            parts[i][place..place + 2].copy_from_slice(&other.to_le_bytes()[..2]);
+        }
+    }
+    parts.concat()
+}
+
+// The bytes cut, with surplus behind them, a part doubled, or a few changed.
+fn changed_bytes(rng: &Rng, mut data: Vec<u8>) -> Vec<u8> {
+    let (place, end) = (rng.below(data.len()), data.len());
+    match rng.below(7) {
+        0 | 1 => data.truncate(rng.pick(&[place, end - 1, end.saturating_sub(4)])),
+        2 => data.extend((0..=rng.below(9)).map(|_| rng.pick(&[0, rng.any() as u8]))),
+        3 => data.resize(end + rng.pick(&[1, 4, 4, 70_000]), 0),
+        4 => drop(data.splice(place..place, data[place..end.min(place + 1 + rng.below(40))].to_vec())),
+        _ => {
+            for k in (0..=rng.below(3)).map(|_| rng.below(end)) {
+                data[k] = boundary(rng, 1, u64::from(data[k]), &[]) as u8;
+            }
+        }
+    }
+    data
+}
+
+fn damaged(rng: &Rng, parts: Vec<Vec<u8>>) -> Vec<u8> {
+    if rng.chance(50) {
+        moved_records(rng, parts)
+    } else {
+        changed_bytes(rng, parts.concat())
+    }
+}
+
+fn faulty_file(rng: &Rng, mut chart: Chart) -> Vec<u8> {
+    match rng.below(12) {
+        0..=5 => return damaged(rng, records(&chart)),
+        6..=8 => alter_field(rng, &mut chart),
+        9 => too_many(rng, &mut chart),
+        10 => no_initial(rng, &mut chart),
+        _ => timed_twice(rng, &mut chart),
+    }
+    file_of(&chart)
+}
+
+// ---------------------------------------------------------------------------------------------
+// Held charts and runs
+// ---------------------------------------------------------------------------------------------
+
+// What a caller holds, a chart and a run: the numbers of all fields, in one list.
+#[derive(Clone)]
+struct Held(Vec<u64>);
+
+// Where each field begins in it, and where the last one ends.
+const PLACES: [usize; 30] = {
+    let (mut places, mut k) = ([0; 30], 0);
+    while k < LAYOUT.len() {
+        places[k + 1] = places[k] + LAYOUT[k].2;
+        k += 1;
+    }
+    places
+};
+
+impl Index<Field> for Held {
+    type Output = [u64];
+
+    fn index(&self, field: Field) -> &[u64] {
+        &self.0[PLACES[field as usize]..PLACES[field as usize + 1]]
+    }
+}
+
+impl IndexMut<Field> for Held {
+    fn index_mut(&mut self, field: Field) -> &mut [u64] {
+        &mut self.0[PLACES[field as usize]..PLACES[field as usize + 1]]
+    }
+}
+
+impl Held {
+    // The chart of a valid file, and a run of zeros.
+    fn of(file: &[u8]) -> Held {
+        let (mut held, mut place) = (Held(vec![0; PLACES[LAYOUT.len()]]), 0);
+        while number_at(file, place + 2, 2) != 0 {
+            let kind = &KINDS[number_at(file, place + 2, 2) as usize - 1];
+            let k = held.count(kind.count);
+            place += 4;
+            for field in kind.fields {
+                held[*field][k] = number_at(file, place, width_of(*field));
+                place += width_of(*field);
+            }
+            held[kind.count][0] += 1;
+        }
+        held
+    }
+
+    // The same chart, and a run of zeros.
+    fn still(&self) -> Held {
+        let mut held = self.clone();
+        held.0[PLACES[RUN]..].fill(0);
+        held
+    }
+
+    fn count(&self, field: Field) -> usize {
+        self[field][0] as usize
+    }
+
+    fn counts(&self) -> Vec<u64> {
+        KINDS.iter().map(|kind| self[kind.count][0]).collect()
+    }
+
+    fn bytes(&self) -> Vec<u8> {
+        let mut bytes = Vec::with_capacity(5500);
+        for (field, width, _) in LAYOUT {
+            self[field].iter().for_each(|number| put(&mut bytes, *number, width));
+        }
+        bytes
+    }
+}
+
+// A counter or timer that reaches one of its times after the elapsed time, or nearly does.
+fn nearly_reached(rng: &Rng, mut own: Vec<u64>, elapsed: i64) -> u64 {
+    if own.is_empty() || rng.chance(30) {
+        own = vec![DAY as u64, 0, rng.between(0, DAY) as u64];
+    }
+    (rng.pick(&own) as i64 - elapsed + rng.between(-1, 1)).clamp(0, DAY) as u64
+}
+
+// A run of the chart; mostly one in which the wanted transition has its sources active and its targets not.
+fn put_run(rng: &Rng, held: &mut Held, chart: &Chart, elapsed: i64, wanted: Option<Record>) {
+    for (field, kind) in [(Active, STEP), (Activity, ACTION), (Stored, ACTION), (Latched, ACTION), (Good, CASE), (Bad, CASE)] {
+        held[field][0] = chosen(rng, numbers(chart[kind].len()), 64);
+    }
+    if let Some([sources, targets, ..]) = wanted.filter(|_| rng.chance(70)) {
+        held[Active][0] = (held[Active][0] | sources) & !targets;
+    }
+    for k in members(held[Active][0]) {
+        let waits = chart[TRANSITION].iter().filter(|transition| has(transition[0], k as u64)).map(|transition| transition[4]);
+        let counted = chart[BLOCK].iter().filter(|block| block[0] == k as u64 && [L, D, DS].contains(&block[2]));
+        held[Counters][k] = nearly_reached(rng, waits.chain(counted.map(|block| block[3])).collect(), elapsed);
+    }
+    for k in members(held[Latched][0]) {
+        let latching = chart[BLOCK].iter().filter(|block| block[1] == k as u64 && [SD, SL].contains(&block[2]));
+        held[Timers][k] = nearly_reached(rng, latching.map(|block| block[3]).collect(), elapsed);
+    }
+    held[Clock][0] = reading(rng.pick(&[0, 1000, -1, -rng.between(1, 60_000), rng.between(0, TURN - 1)]));
+}
+
+// One of these fields at or near a limit; of a table an entry that counts, the first that does not, or the last.
+fn alter_held(rng: &Rng, held: &mut Held, fields: Range<usize>) {
+    let (field, width, many) = rng.pick(&LAYOUT[fields]);
+    let counts = held.counts();
+    let k = rng.pick(&[rng.below(many), 0, rng.pick(&counts).min(many as u64 - 1) as usize, many - 1]);
+    let mut near = if width == 4 { vec![DAY as u64] } else { [&counts[..], &[64, 32, 256]].concat() };
+    if width == 8 {
+        near.extend(counts.iter().flat_map(|many| [numbers(*many as usize), numbers((*many as usize).saturating_add(32))]));
+    }
+    held[field][k] = boundary(rng, width, held[field][k], &near);
+}
+
+// The most that a field may be, or how many numbers may be in a set; or anything.
+enum Limit {
+    Most(u64),
+    Below(u64),
+    Open,
+}
+
+fn limit_of(held: &Held, field: Field) -> Limit {
+    let (steps, actions, cases) = (held[Steps][0], held[Actions][0], held[Cases][0]);
+    match field {
+        Steps | Transitions | Cases => Limit::Most(64),
+        Actions => Limit::Most(32),
+        Blocks => Limit::Most(256),
+        Initial | Expected => Limit::Most(1),
+        Output => Limit::Most(31),
+        Wait | Duration | Counters | Timers => Limit::Most(DAY as u64),
+        BlockStep | CaseStep => Limit::Most(steps - 1),
+        BlockAction => Limit::Most(actions.max(1) - 1),
+        Qualifier => Limit::Most(10),
+        Signal => Limit::Most(31 + actions),
+        Sources | Targets | Active => Limit::Below(steps),
+        On | Off => Limit::Below(32 + actions),
+        Activity | Stored | Latched => Limit::Below(actions),
+        Good | Bad => Limit::Below(cases),
+        Value | Clock => Limit::Open,
+    }
+}
+
+// The entries of a field that count: of a table those below its count, of times those that run.
+fn entries(held: &Held, field: Field) -> Vec<usize> {
+    let kind = KINDS.iter().find(|kind| kind.fields.contains(&field));
+    let counted = 0..kind.map_or(1, |kind| held.count(kind.count));
+    match field {
+        Counters => members(held[Active][0]),
+        Timers => members(held[Latched][0]),
+        Duration => counted.filter(|k| TIMED.contains(&held[Qualifier][*k])).collect(),
+        _ => counted.collect(),
+    }
+}
+
+// A field that counts at its limit, or above it by one; which, if a field can be so.
+fn put_at_limit(rng: &Rng, held: &mut Held) -> Option<(Field, bool)> {
+    let (field, above) = (rng.pick(&LAYOUT).0, rng.chance(50));
+    let among = entries(held, field);
+    if among.is_empty() {
+        return None;
+    }
+    let k = rng.pick(&among);
+    match limit_of(held, field) {
+        Limit::Most(most) => held[field][k] = most + u64::from(above),
+        Limit::Below(many) => {
+            let last = (many + u64::from(above)).checked_sub(1).filter(|last| *last < 64)?;
+            held[field][k] |= 1 << last;
+        }
+        Limit::Open => return None,
+    }
+    Some((field, above))
+}
+
+// Anything in some of the entries beyond the counts.
+fn put_junk(rng: &Rng, held: &mut Held) {
+    for kind in &KINDS {
+        let many = held.count(kind.count);
+        for field in kind.fields {
+            let beyond = held[*field][many..].iter_mut().filter(|_| rng.chance(20));
+            beyond.for_each(|entry| *entry = rng.any() & largest(width_of(*field)));
+        }
+    }
+}
+
+// Weights of which each transition in turn sets that of a target, so that it is balanced where that is possible.
+fn balance(weights: &mut [u64], chart: &Chart) {
+    for [sources, targets, ..] in &chart[TRANSITION] {
+        let sum = |set: u64| members(set).iter().map(|k| weights[*k]).sum::<u64>();
+        let free = targets.trailing_zeros() as usize;
+        let (left, entered) = (sum(*sources), sum(targets & !(1 << free)));
+        weights[free] = left.saturating_sub(entered).min(65535);
+    }
+}
+
+// As many as there are steps, mostly; all alike but for a few, or balanced where they can be.
+fn random_weights(rng: &Rng, chart: &Chart) -> Vec<u64> {
+    let (steps, weight) = (chart[STEP].len(), rng.pick(&[0, 1, 65535, rng.any() % 65536]));
+    let mut weights: Vec<u64> = (0..steps).map(|_| if rng.chance(5) { rng.any() % 65536 } else { weight }).collect();
+    if rng.chance(50) {
+        balance(&mut weights, chart);
+    }
+    if rng.chance(20) {
+        weights.resize(rng.pick(&[steps - 1, steps + 1, 0, 64, 255]), weight);
+    }
+    weights
+}
+
+// ---------------------------------------------------------------------------------------------
+// The cases
+// ---------------------------------------------------------------------------------------------
+
+// A request, and what its answer says of what was reached.
+struct Case {
+    request: Vec<u8>,
+    count: Box<dyn FnOnce(&mut Reached, &str)>,
+}
+
+const START: u64 = 0;
+const CYCLE: u64 = 1;
+const TALLY: u64 = 2;
+const WEIGHING: u64 = 3;
+const WRITING: u64 = 4;
+const SHIFT: u64 = 5;
+
+// A call on what is held, without the lists that may follow.
+fn request(held: &Held, kind: u64, clock: u64, inputs: u64, lent: u64, weights: usize) -> Vec<u8> {
+    let mut bytes = held.bytes();
+    for (number, width) in [(kind, 1), (clock, 4), (inputs, 4), (lent, 1), (weights as u64, 1)] {
+        put(&mut bytes, number, width);
+    }
+    bytes
+}
+
+// The driver takes a file's length in two bytes.
+fn shortened(mut file: Vec<u8>) -> Vec<u8> {
+    file.truncate(65_535);
+    file
+}
+
+fn read_case(rng: &Rng, _: u64) -> Case {
+    let count = |reached: &mut Reached, line: &str| reached.answer(answered(line, 1)[0], "files read");
+    Case { request: shortened(faulty_file(rng, random_chart(rng))), count: Box::new(count) }
+}
+
+fn back_case(rng: &Rng, _: u64) -> Case {
+    let chart = random_chart(rng);
+    let file = if rng.chance(80) { file_of(&chart) } else { shortened(faulty_file(rng, chart)) };
+    let same = format!("0 {} same", file.len());
+    let count = move |reached: &mut Reached, line: &str| reached.add(if line == same { "written back" } else { "not written back" }, 1);
+    Case { request: file, count: Box::new(count) }
+}
+
+// A call on a held chart and run, and the field that was put at its limit or above it.
+struct Call {
+    held: Held,
+    kind: u64,
+    clock: u64,
+    inputs: u64,
+    limit: Option<(Field, bool)>,
+}
+
+// Any transition, or often one with several sources and a wait.
+fn some_transition(rng: &Rng, chart: &Chart) -> Option<Record> {
+    let joins: Vec<Record> = chart[TRANSITION].iter().filter(|t| t[0].count_ones() > 1 && t[4] > 0).copied().collect();
+    let among = if joins.is_empty() || rng.chance(60) { &chart[TRANSITION] } else { &joins };
+    (!among.is_empty()).then(|| rng.pick(among))
+}
+
+// Half get a field at its limit or above it, less than a third some field or two altered.
+fn alter(rng: &Rng, held: &mut Held) -> Option<(Field, bool)> {
+    match rng.below(10) {
+        0..=4 => return put_at_limit(rng, held),
+        5..=7 => {
+            for _ in 0..=rng.below(2) {
+                let (from, to) = rng.pick(&[(0, RUN), (0, RUN), (RUN, LAYOUT.len())]);
+                alter_held(rng, held, from..to);
+            }
+        }
+        _ => {}
+    }
+    None
+}
+
+fn held_case(rng: &Rng, _: u64) -> Case {
+    let chart = random_chart(rng);
+    let wanted = some_transition(rng, &chart);
+    let elapsed = rng.pick(&[0, 1, MINUTE, rng.between(0, 50), rng.between(0, 2000), rng.between(0, MINUTE)]);
+    let mut held = Held::of(&file_of(&chart));
+    put_run(rng, &mut held, &chart, elapsed, wanted);
+    let gap = if rng.chance(88) { elapsed } else { refused_gap(rng) };
+    let (clock, inputs) = (reading(held[Clock][0] as i64 + gap), inputs_for(rng, &chart, wanted));
+    let kind = rng.pick(&[START, CYCLE, CYCLE, CYCLE, TALLY, WEIGHING]);
+    let limit = alter(rng, &mut held);
+    let lent = if rng.chance(60) { 32 } else { rng.pick(&[0, 31, 33, 64, 255, rng.any() % 256]) };
+    let weights = if kind == WEIGHING { random_weights(rng, &chart) } else { Vec::new() };
+    let mut bytes = request(&held, kind, clock, inputs, lent, weights.len());
+    weights.iter().for_each(|weight| put(&mut bytes, *weight, 2));
+    let call = Call { held, kind, clock, inputs, limit };
+    Case { request: bytes, count: Box::new(move |reached, line| count_held(reached, &call, line)) }
+}
+
+// A chart with junk beyond its counts, sometimes with a field altered too, and every kind of lent length.
+fn writing_case(rng: &Rng, _: u64) -> Case {
+    let file = file_of(&random_chart(rng));
+    let mut held = Held::of(&file);
+    put_junk(rng, &mut held);
+    if rng.chance(15) {
+        alter_held(rng, &mut held, 0..RUN);
+    }
+    let size = file.len() as u64;
+    let (more, fewer) = (size + 2 + rng.any() % 300, rng.any() % size);
+    let lent = rng.pick(&[size, size, size, size - 1, size + 1, more, fewer, 0, 6436]);
+    let count = move |reached: &mut Reached, line: &str| count_written(reached, size, lent, line);
+    Case { request: request(&held, WRITING, lent, 0, 32, 0), count: Box::new(count) }
+}
+
+// Clocks of which none is refused, or one: the first, the last or one between, mostly with others behind it that would not be.
+fn shift_clocks(rng: &Rng, first: u64, many: usize, due: &[u64]) -> Vec<u64> {
+    let mut calls = vec![first as i64];
+    for k in 0..many {
+        let clock = clock_after(rng, calls[k], &calls, due);
+        calls.push(if is_accepted(calls[k], clock) { clock } else { calls[k] + rng.between(0, 50) });
+    }
+    let mut clocks: Vec<u64> = calls[1..].iter().map(|clock| reading(*clock)).collect();
+    if many > 0 && rng.chance(60) {
+        let k = rng.pick(&[0, many / 2, many - 1]);
+        clocks[k] = reading(calls[k] + refused_gap(rng));
+    }
+    clocks
+}
+
+// Three in 2,000 shifts are as long as may be, or by one longer, and all else is right: each costs as much as a hundred others.
+fn shift_case(rng: &Rng, number: u64) -> Case {
+    let chart = random_chart(rng);
+    let mut held = Held::of(&file_of(&chart));
+    put_run(rng, &mut held, &chart, 0, some_transition(rng, &chart));
+    let few = rng.pick(&[0, 1, 2, rng.between(3, 12) as usize, rng.between(13, 60) as usize]);
+    let (many, right) = [(4096, true), (4097, true), (4096, true)].get(number as usize % 2000).copied().unwrap_or((few, false));
+    let clocks = shift_clocks(rng, held[Clock][0], many, &due_times(&chart));
+    if !right && rng.chance(15) {
+        let (from, to) = rng.pick(&[(0, RUN), (RUN, LAYOUT.len())]);
+        alter_held(rng, &mut held, from..to);
+    }
+    let uneven = || if right || rng.chance(90) { many } else { rng.pick(&[many + 1, many.max(1) - 1]) };
+    let (inputs, words) = (uneven(), uneven());
+    let lent = if right || rng.chance(80) { 32 } else { rng.pick(&[31, 0, 33, 255]) };
+    let mut bytes = request(&held, SHIFT, (many | inputs << 16) as u64, words as u64, lent, 0);
+    clocks.iter().for_each(|clock| put(&mut bytes, *clock, 4));
+    (0..inputs).for_each(|_| put(&mut bytes, inputs_for(rng, &chart, None), 4));
+    Case { request: bytes, count: Box::new(move |reached, line| count_shift(reached, many as u64, line)) }
+}
+
+// A chart file, or none, and a trace.
+struct Printing {
+    file: Option<Vec<u8>>,
+    trace: Vec<u8>,
+}
+
+// The first trace is as long as may be, or longer by a record or two.
+fn print_case(rng: &Rng, number: u64) -> Printing {
+    let chart = random_chart(rng);
+    let (file, trace) = (file_of(&chart), random_trace(rng, &chart));
+    if number == 0 {
+        let cycles = (0..5460 + rng.between(0, 2)).map(|k| cycle_record(7 * k, inputs_for(rng, &chart, None)));
+        return Printing { file: Some(file), trace: [start_record(0)].into_iter().chain(cycles).flatten().collect() };
+    }
+    match rng.below(40) {
+        0..=12 => Printing { file: Some(faulty_file(rng, chart)), trace: trace.concat() },
+        13 => Printing { file: None, trace: trace.concat() },
+        14..=19 => Printing { file: Some(file), trace: damaged(rng, trace) },
+        20 => Printing { file: Some(file), trace: Vec::new() },
+        _ => Printing { file: Some(file), trace: trace.concat() },
+    }
+}
+
+// ---------------------------------------------------------------------------------------------
+// What was reached
+// ---------------------------------------------------------------------------------------------
+
+// How often each thing was reached, by its name.
+#[derive(Default)]
+struct Reached(BTreeMap<String, u64>);
+
+impl Reached {
+    fn add(&mut self, name: &str, many: u64) {
+        match self.0.get_mut(name) {
+            Some(reached) => *reached += many,
+            None => drop(self.0.insert(name.to_string(), many)),
+        }
+    }
+
+    fn note(&mut self, name: &str, so: bool) {
+        self.add(name, u64::from(so));
+    }
+
+    // An answer by its number of refusal.
+    fn answer(&mut self, code: u64, accepted: &str) {
+        if code == 0 {
+            self.add(accepted, 1);
+        } else {
+            self.add(&format!("refused {code}"), 1);
+        }
+    }
+
+    fn add_all(&mut self, others: &Reached) {
+        others.0.iter().for_each(|(name, many)| self.add(name, *many));
+    }
+
+    fn of(&self, name: &str) -> u64 {
+        self.0.get(name).copied().unwrap_or_default()
+    }
+}
+
+// What a comparison must reach: without it equal answers say nothing of it.
+fn needed() -> Vec<String> {
+    let mut names: Vec<String> = (1..=18).map(|code| format!("refused {code}")).collect();
+    for (q, name) in (0..).zip(NAMES).filter(|(q, _)| *q != R) {
+        let timed = TIMED.contains(&q);
+        let of = |what: &str| format!("{name} {what}");
+        names.push(of("active"));
+        names.extend((timed || q == P || q == P1).then(|| of("not active")));
+        names.extend(["at its duration", "one ms before"].into_iter().filter(|_| timed).map(of));
+    }
+    for field in LAYOUT.iter().map(|(field, _, _)| *field).filter(|field| *field != Value && *field != Clock) {
+        names.extend([false, true].map(|above| name_of(field, above)));
+    }
+    names.extend(NEEDED.iter().map(|name| name.to_string()));
+    names
+}
+
+#[rustfmt::skip]
+const NEEDED: [&str; 31] = [
+    "R resets", "P not active at leaving", "transitions taken", "forks taken", "joins taken", "two taken in one call",
+    "taken at its wait", "not taken one ms before", "not taken by a later source", "taken beside a younger step",
+    "passed", "failed", "not run", "accepted at 60,000 ms", "clock turned", "balanced",
+    "files read", "written", "written into its length", "written into more", "one byte too few", "written back", "not written back",
+    "shift refused at its beginning", "shift refused in its middle", "shift refused at its end", "shift refused nowhere",
+    "shift of 0", "shift of 1", "shift of 4096", "shift of 4097",
+];
+
+fn name_of(field: Field, above: bool) -> String {
+    format!("{field:?} {}", if above { "above it" } else { "at its limit" }).to_lowercase()
+}
+
+// The first numbers of an answer, as far as it has them.
+fn answered(line: &str, many: usize) -> Vec<u64> {
+    line.split(' ').take(many).map(|word| word.parse().unwrap_or_else(|_| panic!("no number: {word}"))).collect()
+}
+
+fn count_moves(reached: &mut Reached, held: &Held, taken: u64) {
+    reached.add("transitions taken", u64::from(taken.count_ones()));
+    reached.note("two taken in one call", taken.count_ones() > 1);
+    for k in members(taken) {
+        reached.note("forks taken", held[Targets][k].count_ones() > 1);
+        reached.note("joins taken", held[Sources][k].count_ones() > 1);
+    }
+}
+
+// The active steps, and the active actions.
+type Standing = (u64, u64);
+
+// By actions with one block alone, whose activity that block decides; of R, by an active action that is so no more.
+fn count_actions(reached: &mut Reached, held: &Held, before: Standing, after: Standing) {
+    let actions = &held[BlockAction][..held.count(Blocks)];
+    let mut blocks_of = [0; 256];
+    actions.iter().for_each(|action| blocks_of[*action as usize] += 1);
+    for (k, action) in actions.iter().enumerate() {
+        let (step, q, active) = (held[BlockStep][k], held[Qualifier][k], has(after.1, *action));
+        let (here, left) = (has(after.0, step), has(before.0, step) && !has(after.0, step));
+        let alone = blocks_of[*action as usize] == 1;
+        if q == R {
+            reached.note("R resets", here && has(before.1, *action) && !active);
+        } else if alone && (here && q != P0 || left && q == P0) {
+            reached.add(&format!("{} {}", NAMES[q as usize], if active { "active" } else { "not active" }), 1);
+        } else if alone && left && q == P {
+            reached.note("P not active at leaving", !active);
+        }
+    }
+}
+
+fn count_tally(reached: &mut Reached, counts: &[u64]) {
+    ["passed", "failed", "not run"].iter().zip(counts).for_each(|(name, many)| reached.add(name, *many));
+}
+
+fn count_clock(reached: &mut Reached, last: u64, clock: u64) {
+    reached.note("accepted at 60,000 ms", reading(clock as i64 - last as i64) == MINUTE as u64);
+    reached.note("clock turned", clock < last);
+}
+
+// Of blocks on active steps: a counter or timer at the duration, or one below.
+fn count_durations(reached: &mut Reached, held: &Held, active: u64, counters: &[u64], timers: &[u64]) {
+    for k in (0..held.count(Blocks)).filter(|k| has(active, held[BlockStep][*k])) {
+        let (q, duration) = (held[Qualifier][k], held[Duration][k]);
+        let counter = counters[held[BlockStep][k] as usize];
+        let time = if [SD, SL].contains(&q) { timers[held[BlockAction][k] as usize] } else { counter };
+        if TIMED.contains(&q) && duration > 0 && (time == duration || time == duration - 1) {
+            reached.add(&format!("{} {}", NAMES[q as usize], if time == duration { "at its duration" } else { "one ms before" }), 1);
+        }
+    }
+}
+
+// Whether anything but a wait keeps transition k, with all sources active, from being taken.
+fn is_kept(call: &Call, taken: u64, k: usize) -> bool {
+    let held = &call.held;
+    let before = |field: Field| members(taken & numbers(k)).iter().fold(0, |set, earlier| set | held[field][*earlier]);
+    let signals = call.inputs | held[Activity][0] << 32;
+    held[Sources][k] & before(Sources) != 0
+        || held[On][k] & !signals | held[Off][k] & signals != 0
+        || held[Targets][k] & (held[Active][0] | before(Targets)) != 0
+}
+
+// Of transitions with all sources active: the least counter at the wait, or one below; only a counter behind the first source's below it;
+// and below it only one of a step that is no source.
+fn count_waits(reached: &mut Reached, call: &Call, taken: u64) {
+    let (held, active) = (&call.held, call.held[Active][0]);
+    let elapsed = reading(call.clock as i64 - held[Clock][0] as i64);
+    let counts = |set: u64| members(set).iter().map(|step| held[Counters][*step] + elapsed).collect::<Vec<u64>>();
+    for k in (0..held.count(Transitions)).filter(|k| held[Wait][*k] > 0 && held[Sources][*k] & !active == 0) {
+        let (wait, is_taken, of_sources) = (held[Wait][k], has(taken, k as u64), counts(held[Sources][k]));
+        let least = of_sources.iter().copied().min().unwrap_or_default();
+        reached.note("taken at its wait", is_taken && least == wait);
+        reached.note("not taken one ms before", !is_taken && least == wait - 1);
+        reached.note("not taken by a later source", least < wait && wait <= of_sources[0] && !is_kept(call, taken, k));
+        reached.note("taken beside a younger step", is_taken && counts(active & !held[Sources][k]).iter().any(|count| *count < wait));
+    }
+}
+
+// An accepted start or cycle.
+fn count_call(reached: &mut Reached, call: &Call, line: &str) {
+    let numbers = answered(line, 105);
+    let (held, taken, after) = (&call.held, numbers[1], (numbers[3], numbers[4]));
+    reached.add("accepted calls", 1);
+    count_moves(reached, held, taken);
+    count_actions(reached, held, (held[Active][0], held[Activity][0]), after);
+    count_durations(reached, held, after.0, &numbers[9..73], &numbers[73..105]);
+    count_waits(reached, call, taken);
+}
+
+// A field above its limit by the refusal that it gets, one at its limit by a call that reads it and does not refuse it so.
+fn count_limit(reached: &mut Reached, kind: u64, field: Field, above: bool, code: u64) {
+    let of_run = field as usize >= RUN;
+    let refusal = match field {
+        Steps | Actions | Transitions | Blocks | Cases => 4,
+        _ if of_run => 12,
+        _ => 5,
+    };
+    if code != 15 && (!of_run || kind == CYCLE || kind == TALLY) {
+        reached.note(&name_of(field, above), (code == refusal) == above);
+    }
+}
+
+fn count_held(reached: &mut Reached, call: &Call, line: &str) {
+    let numbers = answered(line, 4);
+    let code = numbers[0];
+    reached.answer(code, ["starts", "cycles", "tallies", "weighings"][call.kind as usize]);
+    if let Some((field, above)) = call.limit {
+        count_limit(reached, call.kind, field, above, code);
+    }
+    match call.kind {
+        _ if code > 0 => {}
+        START => count_call(reached, &Call { held: call.held.still(), clock: 0, inputs: 0, ..*call }, line),
+        CYCLE => {
+            count_clock(reached, call.held[Clock][0], call.clock);
+            count_call(reached, call, line);
+        }
+        TALLY => count_tally(reached, &numbers[1..]),
+        _ => reached.note("balanced", numbers[2] > 0),
+    }
+}
+
+// By the number of lent bytes, where nothing else refuses a writing.
+fn count_written(reached: &mut Reached, size: u64, lent: u64, line: &str) {
+    let numbers = answered(line, 2);
+    let (code, length) = (numbers[0], numbers[1]);
+    reached.answer(code, "written");
+    reached.note("one byte too few", code == 17 && lent == size - 1);
+    reached.note("written into its length", code == 0 && lent == length);
+    reached.note("written into more", code == 0 && lent > length);
+}
+
+// A length is counted where it was judged: 18 comes behind 15, the chart's numbers and 12.
+fn count_shift(reached: &mut Reached, length: u64, line: &str) {
+    let numbers = answered(line, 2);
+    let (code, accepted) = (numbers[0], numbers[1]);
+    reached.answer(code, "shifts accepted");
+    reached.add("cycles of shifts", accepted);
+    reached.note("shift refused nowhere", code == 0 && length > 0);
+    if code == 11 && length > 1 {
+        reached.note("shift refused at its beginning", accepted == 0);
+        reached.note("shift refused in its middle", 0 < accepted && accepted < length - 1);
+        reached.note("shift refused at its end", accepted == length - 1);
+    }
+    if [0, 1, 4096, 4097].contains(&length) && (code == 18) == (length > 4096) && [0, 11, 18].contains(&code) {
+        reached.add(&format!("shift of {length}"), 1);
+    }
+}
+
+fn count_printed(reached: &mut Reached, case: &Printing, printed: &str) {
+    let (mut before, mut last) = ((0, 0), None);
+    let accepted = !printed.starts_with("refused chart");
+    let held = Held::of(case.file.as_deref().filter(|_| accepted).unwrap_or(&[0; 4]));
+    for (number, line) in printed.lines().enumerate() {
+        let words: Vec<&str> = line.split(' ').collect();
+        if words.contains(&"refused") {
+            reached.add(&format!("refused {}", words[words.len() - 1]), 1);
+        } else if words[0] == "passed" {
+            count_tally(reached, &[1, 3, 5].map(|k| words[k].parse().expect("a count")));
+        } else {
+            let [active, activity, taken] = [1, 2, 3].map(|k| u64::from_str_radix(words[k], 16).expect("a set"));
+            let clock = number_at(&case.trace, if number > 0 { 12 * number } else { 4 }, 4);
+            reached.add("accepted calls", 1);
+            last.into_iter().for_each(|last| count_clock(reached, last, clock));
+            count_moves(reached, &held, taken);
+            count_actions(reached, &held, before, (active, activity));
+            (before, last) = ((active, activity), Some(clock));
+        }
+    }
+}
+
+// ---------------------------------------------------------------------------------------------
+// The comparison
+// ---------------------------------------------------------------------------------------------
+
+// What the command line asks for.
+struct Asked {
+    seed: u64,
+    cases: u64,
+    folder: PathBuf,
+    second: String,
+    driver: Vec<String>,
+    bench_runs: Vec<Vec<String>>,
+}
+
+// A case that the two answer differently, with the request as the second implementation takes it.
+struct Difference {
+    number: u64,
+    request: Vec<u8>,
+    engine: String,
+    second: String,
+}
+
+// What a comparison of some cases finds.
+type Found = Result<Reached, Difference>;
+
+// What is answered by lines: how many cases for each that is asked for, and what the driver and the second implementation call it. The driver
+// takes the length of a file in two bytes, the second implementation in four; a call on what is held has no length.
+struct Part {
+    what: &'static str,
+    times: u64,
+    driver: &'static str,
+    second: &'static str,
+    lengths: [usize; 2],
+    make: fn(&Rng, u64) -> Case,
+}
+
+const PARTS: [Part; 5] = [
+    Part { what: "files read", times: 1, driver: "read_charts", second: "read", lengths: [2, 4], make: read_case },
+    Part { what: "files written back", times: 1, driver: "write_back", second: "back", lengths: [2, 4], make: back_case },
+    Part { what: "held calls", times: 5, driver: "held_calls", second: "held", lengths: [0, 0], make: held_case },
+    Part { what: "held charts written", times: 1, driver: "held_calls", second: "held", lengths: [0, 0], make: writing_case },
+    Part { what: "shifts", times: 1, driver: "held_calls", second: "held", lengths: [0, 0], make: shift_case },
+];
+
+// So many cases are made, answered and compared at a time: enough that starting two programs costs little, few enough for the memory, since the
+// second implementation reads all of them before it answers.
+const BATCH: u64 = 2000;
+// Each printed run is a program of its own.
+const PRINTED_BATCH: u64 = 25;
+
+// What a program writes; an error of its own stands behind it, and so differs.
+fn run(command: &[&str], folder: &Path, input: &[u8]) -> Vec<u8> {
+    let mut program = Command::new("timeout");
+    program.arg("300").args(command).current_dir(folder).stdin(Stdio::piped()).stdout(Stdio::piped()).stderr(Stdio::piped());
+    let mut child = program.spawn().expect("the program 'timeout'");
+    let stdin = child.stdin.take();
+    thread::scope(|scope| {
+        // where a program stops reading, its answer shows it
+        scope.spawn(move || stdin.map(|mut stdin| stdin.write_all(input)));
+        let mut done = child.wait_with_output().expect("what a program writes");
+        if !done.status.success() || !done.stderr.is_empty() {
+            done.stdout.extend(format!("{}: {}", done.status, String::from_utf8_lossy(&done.stderr)).bytes());
+        }
+        done.stdout
+    })
+}
+
+fn text(bytes: &[u8]) -> String {
+    String::from_utf8_lossy(bytes).into_owned()
+}
+
+// Each behind its length.
+fn framed<'a>(requests: impl Iterator<Item = &'a Vec<u8>>, width: usize) -> Vec<u8> {
+    let mut bytes = Vec::new();
+    for request in requests {
+        put(&mut bytes, request.len() as u64, width);
+        bytes.extend_from_slice(request);
+    }
+    bytes
+}
+
+// What both write for these cases: a line for each, and what stands behind the last.
+fn both_answer(asked: &Asked, part: &Part, cases: &[Case]) -> [Vec<String>; 2] {
+    let [ours, theirs] = part.lengths.map(|width| framed(cases.iter().map(|case| &case.request), width));
+    let driver: Vec<&str> = asked.driver.iter().map(String::as_str).chain([part.driver]).collect();
+    let written = thread::scope(|scope| {
+        let by_engine = scope.spawn(|| run(&driver, Path::new("."), &ours));
+        let by_second = run(&[&asked.second, part.second], Path::new("."), &theirs);
+        [by_engine.join().expect("what the driver writes"), by_second]
+    });
+    written.map(|bytes| {
+        let mut lines: Vec<String> = text(&bytes).splitn(cases.len() + 1, '\n').map(str::to_string).collect();
+        lines.resize(cases.len() + 1, String::new());
+        lines
+    })
+}
+
+// These cases through both. No line for a case, or something behind the last line, is a difference even where both write so.
+fn compare_lines(asked: &Asked, part: &Part, numbers: Range<u64>) -> Found {
+    let cases: Vec<Case> = numbers.clone().map(|number| (part.make)(&Rng::of(part.what, asked.seed, number), number)).collect();
+    let [ours, theirs] = both_answer(asked, part, &cases);
+    let mut reached = Reached::default();
+    for (k, case) in cases.into_iter().map(Some).chain([None]).enumerate() {
+        if ours[k] != theirs[k] || ours[k].is_empty() != case.is_none() {
+            let request = framed(case.iter().map(|case| &case.request), part.lengths[1]);
+            return Err(Difference { number: numbers.start + k as u64, request, engine: ours[k].clone(), second: theirs[k].clone() });
+        }
+        case.into_iter().for_each(|case| (case.count)(&mut reached, &ours[k]));
+    }
+    Ok(reached)
+}
+
+// A file and a trace as the second implementation takes them; a length of 2^32 - 1 says that there is no file.
+fn printing_request(case: &Printing) -> Vec<u8> {
+    let file = if case.file.is_some() { framed(case.file.iter(), 4) } else { vec![255; 4] };
+    [file, framed([&case.trace].into_iter(), 4)].concat()
+}
+
+// What the second implementation prints for each case, which it writes behind its length.
+fn printed_by_second(asked: &Asked, cases: &[Printing]) -> Vec<String> {
+    let requests: Vec<u8> = cases.iter().flat_map(printing_request).collect();
+    let written = run(&[&asked.second, "print"], Path::new("."), &requests);
+    let (mut left, mut printed) = (&written[..], Vec::new());
+    while left.len() >= 4 {
+        let (one, behind) = left[4..].split_at((number_at(left, 0, 4) as usize).min(left.len() - 4));
+        printed.push(text(one));
+        left = behind;
+    }
+    printed.resize(cases.len(), String::new());
+    printed
+}
+
+// What a bench_run prints, in a folder with the chart's file.
+fn printed_by_engine(words: &[String], folder: &Path, case: &Printing) -> String {
+    let place = folder.join("chart.bin");
+    match &case.file {
+        Some(file) => fs::write(place, file).expect("a file chart.bin"),
+        None => drop(fs::remove_file(place)),
+    }
+    let words: Vec<&str> = words.iter().map(String::as_str).collect();
+    text(&run(&words, folder, &case.trace))
+}
+
+fn compare_printed(asked: &Asked, numbers: Range<u64>) -> Found {
+    let cases: Vec<Printing> = numbers.clone().map(|number| print_case(&Rng::of("printed runs", asked.seed, number), number)).collect();
+    let folder = asked.folder.join(numbers.start.to_string());
+    fs::create_dir(&folder).expect("a folder for chart.bin");
+    let mut reached = Reached::default();
+    for ((number, case), second) in numbers.zip(&cases).zip(printed_by_second(asked, &cases)) {
+        for words in &asked.bench_runs {
+            let engine = printed_by_engine(words, &folder, case);
+            if engine != second {
+                return Err(Difference { number, request: printing_request(case), engine, second });
+            }
+        }
+        count_printed(&mut reached, case, &second);
+    }
+    Ok(reached)
+}
+
+// Batches in their order, each by the next worker that is free. What is begun is ended, so the difference of least number is always found.
+fn in_batches(many: u64, size: u64, compare: impl Fn(Range<u64>) -> Found + Sync) -> Found {
+    let (next, differs) = (AtomicU64::new(0), AtomicBool::new(false));
+    let work = || {
+        let mut found = Vec::new();
+        while !differs.load(Ordering::SeqCst) {
+            let first = next.fetch_add(size, Ordering::SeqCst);
+            if first >= many {
+                break;
+            }
+            let one = compare(first..many.min(first + size));
+            differs.fetch_or(one.is_err(), Ordering::SeqCst);
+            found.push(one);
+        }
+        found
+    };
+    let found: Vec<Found> = thread::scope(|scope| {
+        let workers: Vec<_> = (0..thread::available_parallelism().map_or(1, usize::from)).map(|_| scope.spawn(work)).collect();
+        workers.into_iter().flat_map(|worker| worker.join().expect("a worker")).collect()
+    });
+    let (mut reached, mut differences) = (Reached::default(), Vec::new());
+    for one in found {
+        one.map_or_else(|difference| differences.push(difference), |more| reached.add_all(&more));
+    }
+    differences.into_iter().min_by_key(|difference| difference.number).map_or(Ok(reached), Err)
+}
+
+fn fail(said: &str) -> ! {
+    eprintln!("compare: {said}");
+    exit(1)
+}
+
+// So many cases of one kind; the first difference ends the program, and its request is kept beside the second implementation.
+fn compare(asked: &Asked, what: &str, many: u64, size: u64, batch: impl Fn(Range<u64>) -> Found + Sync) -> Reached {
+    let begun = Instant::now();
+    let Difference { number, request, engine, second } = match in_batches(many, size, batch) {
+        Err(difference) => difference,
+        Ok(reached) => {
+            println!("{many} {what}: no difference ({:.1} s)", begun.elapsed().as_secs_f32());
+            return reached;
+        }
+    };
+    let kept = Path::new(&asked.second).with_file_name("case");
+    fs::write(&kept, request).expect("a file for the request");
+    let place = engine.bytes().zip(second.bytes()).take_while(|(ours, theirs)| ours == theirs).count();
+    eprintln!("engine:\n{}\nsecond implementation:\n{}", around(&engine, place), around(&second, place));
+    let named = format!("seed {}, {what}: case {number} differs from byte {place} on", asked.seed);
+    fail(&format!("{named}; the second implementation's input for it is {}", kept.display()))
+}
+
+// An answer; of a long one what stands around this place.
+fn around(answer: &str, place: usize) -> String {
+    let end = answer.len().min(place + 1500);
+    text(&answer.as_bytes()[place.saturating_sub(500).min(end)..end])
+}
+
+// How often each thing was reached, in lines of at most 140 characters.
+fn print_reached(reached: &Reached, needed: &[String]) {
+    let mut line = String::new();
+    for name in needed.iter().chain(reached.0.keys().filter(|name| !needed.contains(name))) {
+        let item = format!("{name}: {}; ", reached.of(name));
+        if line.len() + item.len() > 140 {
+            println!("{}", line.trim_end());
+            line.clear();
+        }
+        line += &item;
+    }
+    println!("{}", line.trim_end_matches("; "));
+}
+
+fn asked() -> Option<Asked> {
+    let words: Vec<String> = env::args().skip(1).collect();
+    match words.split(|word| word == "--").collect::<Vec<_>>()[..] {
+        [[seed, cases, folder, second], driver, ref bench_runs @ ..] => Some(Asked {
+            seed: seed.parse().ok()?,
+            cases: cases.parse().ok()?,
+            folder: PathBuf::from(folder),
+            second: second.clone(),
+            driver: driver.to_vec(),
+            bench_runs: bench_runs.iter().map(|words| words.to_vec()).collect(),
+        }),
+        _ => None,
+    }
+}
+
+fn main() {
+    let asked = asked().unwrap_or_else(|| fail("the head of tests/cases.rs says what it takes"));
+    let mut reached = Reached::default();
+    for part in &PARTS {
+        let batch = |numbers| compare_lines(&asked, part, numbers);
+        reached.add_all(&compare(&asked, part.what, part.times * asked.cases, BATCH, batch));
+    }
+    let batch = |numbers| compare_printed(&asked, numbers);
+    reached.add_all(&compare(&asked, "printed runs", (asked.cases / 20).max(1), PRINTED_BATCH, batch));
+    let needed = needed();
+    print_reached(&reached, &needed);
+    let missing: Vec<String> = needed.into_iter().filter(|name| reached.of(name) == 0).collect();
+    if !missing.is_empty() {
+        fail(&format!("seed {} never reached: {}", asked.seed, missing.join(", ")));
+    }
+}
