@@ -309,19 +309,17 @@ enum tw_code c_write(const struct tw_chart *c, uint8_t *bytes, size_t lent, size
 	return TW_ACCEPTED;
 }
 
-/* Counts are 0 outside the set and at most a day. A byte for each, which the compiler makes of vectors, then a bit of each byte. */
+/* Counts are 0 outside the set and at most a day: as many are not 0 as there are members that are not 0 and not longer. */
 static inline unsigned counts_bad(const uint32_t *counts, size_t n, uint64_t set)
 {
-	unsigned bad = 0;
-	uint64_t some = 0;
-	uint8_t flags[64];
+	unsigned some = 0;
 	for (size_t k = 0; k < n; k++)
-		bad |= counts[k] > TW_LONGEST;
-	for (size_t k = 0; k < n; k++)
-		flags[k] = counts[k] != 0;
-	for (size_t k = 0; k < n; k += 8)
-		some |= bits_of(flags + k) << k;
-	return bad | ((some & ~set) != 0);
+		some += counts[k] != 0;
+	for (; set; set &= set - 1) {
+		uint32_t count = counts[__builtin_ctzll(set)];
+		some -= (count != 0) & (count <= TW_LONGEST);
+	}
+	return some != 0;
 }
 
 static inline unsigned belongs(const struct tw_chart *c, const struct tw_run *r)
