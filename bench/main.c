@@ -334,8 +334,16 @@ static void measure(const char *what, const struct engine *e, const struct file 
 	}
 }
 
-static int equal(const char *what, const struct bench *proved, const struct bench *c)
+/* What lies between the clock and the active steps is nobody's. */
+static void even(struct tw_run *run)
 {
+	memset((uint8_t *)run + sizeof run->clock, 0, offsetof(struct tw_run, active) - sizeof run->clock);
+}
+
+static int equal(const char *what, struct bench *proved, struct bench *c)
+{
+	even(&proved->run);
+	even(&c->run);
 	if (!memcmp(proved, c, sizeof *c))
 		return 1;
 	const uint8_t *p = (const uint8_t *)proved, *q = (const uint8_t *)c;
