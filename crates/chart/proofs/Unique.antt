@@ -3,13 +3,9 @@ use Prim.Native.Nat.{ℕ, _<_, min}
 use mathlib.Core.List.{List}
 use mathlib.Core.Path.{_≡_}
 use Rattle.sets.proofs.Unique.{one-answer}
-use Rattle.chart.specs.Chart.{noChart}
 use Rattle.chart.specs.Held.{closingCode, heldCode, chartCode}
 use Rattle.chart.specs.Initial.{initialSet}
 use Rattle.chart.specs.declared.chart.Chart.{Chart}
-
-pub no-chart-unique : (r q : Chart) → r ≡ noChart → q ≡ noChart → r ≡ q
-no-chart-unique r q = one-answer
 
 pub at-most-unique : (n table r q : ℕ) → r ≡ min n table → q ≡ min n table → r ≡ q
 at-most-unique n table r q = one-answer

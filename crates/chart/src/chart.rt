@@ -1,7 +1,6 @@
 // A chart as it is held: five counts, and a table for each field of each kind, with the values of the file.
 ghost use mathlib.Core.Path.{_≡_};
 ghost use Prim.Native.Nat.{_<_, min};
-ghost use Rattle.chart.specs.Chart.{noChart};
 
 pub struct Chart {
     pub steps: usize,
@@ -24,33 +23,6 @@ pub struct Chart {
     pub casestep: [u8; 64],
     pub signal: [u8; 64],
     pub expected: [u8; 64],
-}
-
-pub fn no_chart() -> Chart
-    ensures { λ r. ⌜ r ≡ noChart ⌝ }
-{
-    Chart {
-        steps: 0,
-        actions: 0,
-        transitions: 0,
-        blocks: 0,
-        cases: 0,
-        initial: [0; 64],
-        output: [0; 32],
-        value: [0; 32],
-        sources: [0; 64],
-        targets: [0; 64],
-        on: [0; 64],
-        off: [0; 64],
-        wait: [0; 64],
-        blockstep: [0; 256],
-        blockaction: [0; 256],
-        qualifier: [0; 256],
-        duration: [0; 256],
-        casestep: [0; 64],
-        signal: [0; 64],
-        expected: [0; 64],
-    }
 }
 
 // A count, no more than its table has.

@@ -7,7 +7,6 @@ pub mod initial;
 pub use chart::Chart;
 pub use chart::at_most;
 pub use chart::index_of;
-pub use chart::no_chart;
 pub use held::chart_code;
 pub use held::closing_code;
 pub use held::held_code;

@@ -13,11 +13,10 @@ use Rattle.sets.proofs.Unique.{is-in-unique, is-within-unique, is-apart-unique,
 use Rattle.sets.specs.Loops.{orElse}
 use Rattle.fields.specs.Fields.{timed, unless, stepFits, actionFits, transitionCode, durationFits, blockFits, caseFits}
 use Rattle.fields.proofs.Unique.{is-timed-unique, or-else-unique, unless-unique, step-fits-unique, action-fits-unique, transition-passes-unique, transition-code-unique, duration-fits-unique, block-fits-unique, case-fits-unique}
-use Rattle.chart.specs.Chart.{noChart}
 use Rattle.chart.specs.Held.{closingCode, heldCode, chartCode}
 use Rattle.chart.specs.Initial.{initialSet}
 use Rattle.chart.specs.declared.chart.Chart.{Chart}
-use Rattle.chart.proofs.Unique.{no-chart-unique, at-most-unique, index-of-unique, closing-code-unique, held-code-unique, chart-code-unique, initial-of-unique}
+use Rattle.chart.proofs.Unique.{at-most-unique, index-of-unique, closing-code-unique, held-code-unique, chart-code-unique, initial-of-unique}
 use Rattle.reader.specs.Numbers.{leFrom}
 use Rattle.reader.specs.Framing.{Answers}
 use Rattle.reader.specs.Reading.{readChart, Tables, readingOf}
@@ -42,7 +41,7 @@ use Rattle.run.specs.declared.apart.Words.{Words}
 use Rattle.run.specs.declared.run.StepCounter.{StepCounter}
 use Rattle.run.specs.declared.run.ActionTimer.{ActionTimer}
 use Rattle.run.specs.declared.run.Run.{Run}
-use Rattle.run.proofs.Unique.{belongs-unique, parts-belong-unique, counter-longer-unique, timer-longer-unique, no-run-unique, words-of-unique, counts-of-unique, times-of-unique, run-of-unique}
+use Rattle.run.proofs.Unique.{parts-belong-unique, counter-longer-unique, timer-longer-unique, no-run-unique, words-of-unique, counts-of-unique, times-of-unique, run-of-unique}
 use Rattle.cycle.specs.Time.{elapsed}
 use Rattle.cycle.specs.Cycling.{readyAfter, startOf, cycleOf, outputsAfter}
 use Rattle.cycle.specs.Starting.{begun, startOn}
@@ -109,7 +108,6 @@ pub record FieldsUnique : Type 0 where
 
 -- chart/src: chart, held, initial
 pub record ChartUnique : Type 0 where
-  pub no-chart : One (λ (r : Chart). r ≡ noChart)
   pub at-most : (n table : ℕ) → One (λ (r : ℕ). r ≡ min n table)
   pub index-of : (x : ℕ) → One (λ (r : ℕ). (r ≡ x) × (r < 256))
   pub closing-code : (steps blocks : ℕ) (initial blockaction qualifier : List ℕ) → One (λ (r : ℕ). r ≡ closingCode steps blocks initial blockaction qualifier)
@@ -123,7 +121,6 @@ pub record ReaderUnique : Type 0 where
   pub record-at : (bytes : List ℕ) (at before : ℕ) → One (λ (r : Next). Answers r bytes at before)
   pub u16-from : (bytes : List ℕ) (at : ℕ) → One (λ (r : ℕ). r ≡ leFrom 2 bytes at)
   pub u32-from : (bytes : List ℕ) (at : ℕ) → One (λ (r : ℕ). r ≡ leFrom 4 bytes at)
-  pub u64-from : (bytes : List ℕ) (at : ℕ) → One (λ (r : ℕ). r ≡ leFrom 8 bytes at)
   pub signed : (x : ℕ) → One (λ (r : ℤ). r ≡ toZ w32 x)
   pub bits-of : (v : ℤ) → One (λ (r : ℕ). r ≡ ofZ w32 v)
   pub read-chart : (bytes : List ℕ) → One (λ (r : Reading). r ≡ readChart bytes)
@@ -143,7 +140,6 @@ pub record ActingUnique : Type 0 where
 
 -- run/src: apart, belongs, run
 pub record RunUnique : Type 0 where
-  pub belongs : (run : Run) (steps actions cases : ℕ) → One (λ (r : Bool). r ≡ belongsTo steps actions cases run)
   pub StepCounter-longer : (self : StepCounter) (e : ℕ) → One (λ (r : StepCounter). r ≡ longerCounter e self)
   pub ActionTimer-longer : (self : ActionTimer) (e : ℕ) → One (λ (r : ActionTimer). r ≡ longerTimer e self)
   pub no-run : One (λ (r : Run). r ≡ noRun)
@@ -242,7 +238,6 @@ unique = record {
     case-fits = case-fits-unique;
   };
   chart = record {
-    no-chart = no-chart-unique;
     at-most = at-most-unique;
     index-of = index-of-unique;
     closing-code = closing-code-unique;
@@ -254,7 +249,6 @@ unique = record {
     record-at = record-at-unique;
     u16-from = from-unique 2;
     u32-from = from-unique 4;
-    u64-from = from-unique 8;
     signed = signed-unique;
     bits-of = bits-of-unique;
     read-chart = read-chart-unique;
@@ -263,7 +257,6 @@ unique = record {
   choice = record { choose-one = choose-one-unique };
   acting = record { asks = asks-unique; put = put-unique; act = act-unique };
   run = record {
-    belongs = λ run steps actions cases. belongs-unique steps actions cases run;
     StepCounter-longer = λ self e. counter-longer-unique e self;
     ActionTimer-longer = λ self e. timer-longer-unique e self;
     no-run = no-run-unique;

@@ -60,15 +60,6 @@ pub fn u32_from(bytes: &[u8], at: usize) -> u32
     u32_at(bytes, at)
 }
 
-pub fn u64_from(bytes: &[u8], at: usize) -> u64
-    ensures { λ r. ⌜ r ≡ leFrom 8 (now (bytes .entry)) at ⌝ }
-{
-    if left(bytes.len(), at) < 8 {
-        return 0;
-    }
-    u64_at(bytes, at)
-}
-
 // The 32 bits read as a signed number. A cast may not lose the top bit, so the upper half goes by its complement.
 pub fn signed(x: u32) -> i32
     ensures { λ r. ⌜ r ≡ toZ w32 x ⌝ }

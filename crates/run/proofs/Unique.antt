@@ -21,9 +21,6 @@ counter-longer-unique e c r q = one-answer
 pub timer-longer-unique : (e : ℕ) (t r q : ActionTimer) → r ≡ longerTimer e t → q ≡ longerTimer e t → r ≡ q
 timer-longer-unique e t r q = one-answer
 
-pub belongs-unique : (steps actions cases : ℕ) (run : Run) (r q : Bool) → r ≡ belongsTo steps actions cases run → q ≡ belongsTo steps actions cases run → r ≡ q
-belongs-unique steps actions cases run r q = one-answer
-
 pub words-of-unique : (run : Run) (r q : Words) → r ≡ wordsOf run → q ≡ wordsOf run → r ≡ q
 words-of-unique run r q = one-answer
 

@@ -9,11 +9,7 @@ ghost use Rattle.run.specs.Apart.{runOf};
 ghost use Rattle.run.specs.Run.{longest};
 ghost use Rattle.run.specs.Belongs.{countFits, namesFit, belongsTo};
 use crate::apart::Words;
-use crate::apart::counts_of;
-use crate::apart::times_of;
-use crate::apart::words_of;
 use crate::run::LONGEST;
-use crate::run::Run;
 
 // Not 0, and no longer than a member's count may be.
 fn fits_member(n: u32) -> bool
@@ -100,14 +96,4 @@ pub fn parts_belong(
         words.bad,
     );
     names & counts_fit(counts, words.active) & counts_fit(times, words.latched % 4_294_967_296)
-}
-
-pub fn belongs(run: Run, steps: usize, actions: usize, cases: usize) -> bool
-    ensures { λ r. ⌜ r ≡ belongsTo steps actions cases run ⌝ }
-{
-    let counters = run.counters;
-    let timers = run.timers;
-    let counts = counts_of(counters);
-    let times = times_of(timers);
-    parts_belong(words_of(run), &counts, &times, steps, actions, cases)
 }
