@@ -1,17 +1,15 @@
--- Two answers that one statement allows are equal, with all that they leave, for each entry.
+-- Two answers that one statement allows are equal, with all that they leave, for each entry. Reading, the held test, writing, the tally and the weighing
+-- answer by the equations of their parts, which say it.
 use Prim.Native.Nat.{ℕ}
 use mathlib.Core.List.{List}
 use mathlib.Core.Path.{_≡_, sym, ap, _∙_}
 use lib.IntN.{ℤ}
 use Rattle.sets.proofs.Unique.{one-answer}
-use Rattle.chart.specs.declared.chart.Chart.{Chart}
-use Rattle.reader.specs.Reading.{readChart}
-use Rattle.reader.specs.declared.framing.Next.{Next}
 use Rattle.records.specs.declared.Found.{Found}
 use Rattle.records.proofs.Unique.{record-from-unique}
 use Rattle.cycle.specs.declared.cycling.Cycled.{Cycled}
 use Rattle.shift.specs.Shifting.{Done}
-use Rattle.engine.specs.Lent.{Left, left, ShiftLeft, shiftLeft, toldOf, Tells, readAs}
+use Rattle.engine.specs.Lent.{Left, left, ShiftLeft, shiftLeft, toldOf, Tells}
 use Rattle.engine.specs.declared.filing.Told.{Told}
 
 -- a start, a cycle, and one by the lent run

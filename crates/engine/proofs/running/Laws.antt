@@ -1,7 +1,7 @@
 -- What the parts answer is what an entry leaves.
 use Prim.Native.Nat.{ℕ}
 use mathlib.Core.List.{List, [], _∷_}
-use mathlib.Core.Path.{_≡_, refl, sym, ap, ap₂, _∙_}
+use mathlib.Core.Path.{_≡_, refl, ap, ap₂, _∙_}
 use lib.IntN.{ℤ}
 use lib.ListN.{length, replicate}
 use Rattle.sets.specs.Loops.{orElse}
