@@ -225,12 +225,14 @@ enum tw_code c_test(const struct tw_chart *c)
 {
 	if (c->steps > TW_STEPS || c->actions > TW_ACTIONS || c->transitions > TW_TRANSITIONS || c->blocks > TW_BLOCKS || c->cases > TW_CASES)
 		return TW_TOO_MANY;
+	/* The largest mark tells of all whether they fit, and then whether one is initial. */
+	uint8_t mark = 0;
 	unsigned bad = 0;
 	for (size_t i = 0; i < c->steps; i++)
-		bad |= c->initial[i] > 1;
+		mark = c->initial[i] > mark ? c->initial[i] : mark;
 	for (size_t i = 0; i < c->actions; i++)
 		bad |= c->output[i] >= TW_OUTPUTS;
-	if (bad)
+	if (bad | (mark > 1))
 		return TW_BAD_FIELD;
 	uint64_t nostep = from(c->steps), nosignal = signals_from(c->actions);
 	for (size_t i = 0; i < c->transitions; i++) {
@@ -246,7 +248,7 @@ enum tw_code c_test(const struct tw_chart *c)
 		bad |= (c->casestep[i] >= steps) | (c->signal[i] >= signals) | (c->expected[i] > 1);
 	if (bad)
 		return TW_BAD_FIELD;
-	if (!some_initial(c))
+	if (mark == 0)
 		return TW_NO_INITIAL;
 	return twice ? TW_TIMED_TWICE : TW_ACCEPTED;
 }
