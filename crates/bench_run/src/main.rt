@@ -1,4 +1,4 @@
-// bench-run: prints the run of the chart in chart.bin over the trace on standard input (document 01, "The printed run").
+// bench-run: prints the run of the chart in chart.bin over the trace on standard input (document 01, "The printed run"; 02, request vi).
 ghost use Prim.Native.Nat.{_≤_};
 ghost use lib.ListN.{length};
 use chart::Chart;
@@ -19,8 +19,8 @@ fn read_file(space: &mut [u8]) -> usize
     n
 }
 
-// Where there is no room for another line, writes what is gathered. Answers how much is gathered then: all of it still after a
-// write that failed.
+// Where there is no room for another call's lines, writes what is gathered. Answers how much is gathered then: all of it still
+// after a write that failed.
 fn written(used: usize, out: &[u8]) -> usize
     requires { ⌜ used ≤ length (now out) ⌝ }
     ensures { λ r. ⌜ r ≤ used ⌝ }

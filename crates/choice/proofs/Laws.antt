@@ -1,34 +1,189 @@
--- "A target so tested lets a step left in this cycle be entered in it": not here. What is left was active at the cycle's beginning, and what is
--- entered was not.
-use Prim.Native.Nat.{ℕ, zero, suc, _<_}
+-- Reasons and what is taken; and "A target so tested lets a step left in this cycle be entered in it": not here. What is left was active at the
+-- cycle's beginning, and what is entered was not.
+use Prim.Native.Nat.{ℕ, zero, suc, _+_, _≤_, _<_, min}
 use mathlib.Core.List.{List}
 use mathlib.Core.Bool.{Bool, true, false, _&&_, cond}
-use mathlib.Core.Path.{_≡_, refl, sym, _∙_}
-use lib.ListN.{getD}
-use Rattle.sets.specs.Loops.{turns}
+use mathlib.Core.Path.{_≡_, refl, sym, ap, _∙_}
+use native.Mathlib.Omega.{arith}
+use lib.ListN.{getD, length, length-set, set, replicate, getD-replicate}
+use lib.Seq.{getD-set-same, getD-set-other}
+use lib.Dec.{ltb, eqb}
+use borrow.Author.Tests.{ltb-true, lt-ltb, le-ltb, eqb-true, eqb-false}
+use Rattle.sets.specs.Loops.{orElse, table, turns}
 use Rattle.sets.specs.Sets.{has, Within, Apart}
-use Rattle.sets.proofs.Loops.{and-true}
+use Rattle.sets.proofs.Loops.{bool-eq, and-true, turns-start, turns-more, length-table, getD-table, is-table}
 use Rattle.sets.proofs.Members.{has-zero}
 use Rattle.sets.proofs.Below.{has-union, within-has, apart-has, either, never}
-use Rattle.choice.specs.Choice.{ready, ripe, takes, choosingAt, chosen}
+use Rattle.fields.specs.Fields.{unless}
+use Rattle.choice.specs.Choice.{ripe, reason, takes, choosingAt, noneTaken, chosen, reasonAt, reasonsOf}
 use Rattle.choice.specs.declared.Choice.{Choice}
+
+-- ---- a reason is 0 exactly if every test holds
+
+none-against : (a b c d e f r : Bool)
+    → eqb (orElse (unless a 1) (orElse (unless b 2) (orElse (unless (c && d) 3) (orElse (unless r 4) (orElse (unless e 5) (unless f 6)))))) 0 ≡ (a && b && c && d && e && f && r)
+none-against false b c d e f r = refl
+none-against true false c d e f r = refl
+none-against true true false d e f r = refl
+none-against true true true false e f r = refl
+none-against true true true true false f true = refl
+none-against true true true true false f false = refl
+none-against true true true true true false true = refl
+none-against true true true true true false false = refl
+none-against true true true true true true true = refl
+none-against true true true true true true false = refl
+
+-- "'Taken' is given exactly where it was before": where document 01's tests hold, as the choosing made them before there were reasons
+pub taken-as-before : (ch : Choice) (s t on off w : ℕ) (counts : List ℕ) (active signals : ℕ)
+    → eqb (reason ch s t on off w counts active signals) 0 ≡ (Within s active && Apart s (ch .left) && Within on signals && Apart off signals && Apart t active && Apart t (ch .claimed) && ripe w s counts)
+unfolding reason
+taken-as-before ch s t on off w counts active signals =
+    none-against (Within s active) (Apart s (ch .left)) (Within on signals) (Apart off signals) (Apart t active) (Apart t (ch .claimed)) (ripe w s counts)
+
+-- of a taken transition: its sources were active and none of them used, its targets were not active and none of them claimed
+pub record Free (s t active : ℕ) (ch : Choice) : Type 0 where
+  pub sources : Within s active ≡ true
+  pub unused : Apart s (ch .left) ≡ true
+  pub targets : Apart t active ≡ true
+  pub unclaimed : Apart t (ch .claimed) ≡ true
+
+pub taken-free : (ch : Choice) (s t on off w : ℕ) (counts : List ℕ) (active signals : ℕ) → eqb (reason ch s t on off w counts active signals) 0 ≡ true → Free s t active ch
+taken-free ch s t on off w counts active signals h =
+    let a = and-true _ (ripe w s counts) (sym (taken-as-before ch s t on off w counts active signals) ∙ h) in
+    let b = and-true _ (Apart t (ch .claimed)) (a .0) in
+    let c = and-true _ (Apart t active) (b .0) in
+    let d = and-true _ (Apart off signals) (c .0) in
+    let e = and-true _ (Within on signals) (d .0) in
+    let f = and-true (Within s active) (Apart s (ch .left)) (e .0) in
+    record { sources = f .0; unused = f .1; targets = c .1; unclaimed = b .1 }
+
+-- ---- a reason is at most 6
+
+one-of-six : (a b d r e f : Bool) → orElse (unless a 1) (orElse (unless b 2) (orElse (unless d 3) (orElse (unless r 4) (orElse (unless e 5) (unless f 6))))) ≤ 6
+one-of-six false b d r e f = omega arith
+one-of-six true false d r e f = omega arith
+one-of-six true true false r e f = omega arith
+one-of-six true true true false e f = omega arith
+one-of-six true true true true false f = omega arith
+one-of-six true true true true true false = omega arith
+one-of-six true true true true true true = omega arith
+
+pub reason-most : (ch : Choice) (s t on off w : ℕ) (counts : List ℕ) (active signals : ℕ) → reason ch s t on off w counts active signals ≤ 6
+unfolding reason
+reason-most ch s t on off w counts active signals =
+    one-of-six (Within s active) (Apart s (ch .left)) (Within on signals && Apart off signals) (ripe w s counts) (Apart t active) (Apart t (ch .claimed))
+
+-- ---- the first test that fails
+
+module _ (ch : Choice) (s t on off w : ℕ) (counts : List ℕ) (active signals : ℕ) where
+  abbrev Is : ℕ → Type 0
+  Is n = n ≡ reason ch s t on off w counts active signals
+
+  pub not-active : Within s active ≡ false → Is 1
+  unfolding reason
+  not-active a = rw a
+
+  module _ (a : Within s active ≡ true) where
+    pub used : Apart s (ch .left) ≡ false → Is 2
+    unfolding reason
+    used b = rw (a, b)
+
+    module _ (b : Apart s (ch .left) ≡ true) where
+      pub signal : (Within on signals && Apart off signals) ≡ false → Is 3
+      unfolding reason
+      signal d = rw (a, b, d)
+
+      module _ (d : (Within on signals && Apart off signals) ≡ true) where
+        pub early : ripe w s counts ≡ false → Is 4
+        unfolding reason
+        early r = rw (a, b, d, r)
+
+        module _ (r : ripe w s counts ≡ true) where
+          pub occupied : Apart t active ≡ false → Is 5
+          unfolding reason
+          occupied e = rw (a, b, d, r, e)
+
+          module _ (e : Apart t active ≡ true) where
+            pub claimed : Apart t (ch .claimed) ≡ false → Is 6
+            unfolding reason
+            claimed f = rw (a, b, d, r, e, f)
+
+            pub none : Apart t (ch .claimed) ≡ true → Is 0
+            unfolding reason
+            none f = rw (a, b, d, r, e, f)
+
+-- ---- the reasons so far, and 0 beyond
+
+ltb-same : (k m n : ℕ) → (k < m → k < n) → (k < n → k < m) → ltb k m ≡ ltb k n
+ltb-same k m n f g = bool-eq (ltb k m) (ltb k n) (λ e. lt-ltb k n (f (ltb-true k m e))) (λ e. lt-ltb k m (g (ltb-true k n e)))
+
+module _ (sources targets on off wait counts : List ℕ) (active signals : ℕ) where
+  abbrev reasons : ℕ → List ℕ
+  reasons n = reasonsOf n sources targets on off wait counts active signals
+
+  abbrev why : ℕ → ℕ
+  why t = reasonAt sources targets on off wait counts active signals t
+
+  pub reasons-at : (n k : ℕ) → k < 64 → getD (reasons n) k 0 ≡ cond (ltb k n) (why k) 0
+  unfolding reasonsOf
+  reasons-at n k l = getD-table (λ t. cond (ltb t n) (why t) 0) 64 k 0 l
+
+  pub reasons-most : (n k : ℕ) → k < 64 → getD (reasons n) k 0 ≤ 6
+  reasons-most n k l = rw (reasons-at n k l) (go (ltb k n))
+    where
+      go : (b : Bool) → cond b (why k) 0 ≤ 6
+      go true = reason-most (chosen k sources targets on off wait counts active signals) _ _ _ _ _ counts active signals
+      go false = omega arith
+
+  reasons-are : (n : ℕ) (l : List ℕ) → length l ≡ 64 → ((k : ℕ) → k < 64 → getD l k 0 ≡ cond (ltb k n) (why k) 0) → l ≡ reasons n
+  unfolding reasonsOf
+  reasons-are n l h f = is-table (λ t. cond (ltb t n) (why t) 0) 64 l 0 h f
+
+  reasons-long : (n : ℕ) → length (reasons n) ≡ 64
+  unfolding reasonsOf
+  reasons-long n = length-table (λ t. cond (ltb t n) (why t) 0) 64
+
+  abbrev taken : ℕ → Choice
+  taken n = chosen n sources targets on off wait counts active signals
+
+  pub none-explained : (noneTaken ≡ taken 0) × (replicate 64 0 ≡ reasons 0)
+  unfolding chosen
+  none-explained = (turns-start _ _, reasons-are 0 (replicate 64 0) refl (λ k l. getD-replicate 64 k 0 0 l ∙ rw (le-ltb k 0 (omega arith))))
+
+  one-reason : (t v : ℕ) (l : List ℕ) → l ≡ reasons t → t < 64 → v ≡ why t → set l t v ≡ reasons (t + 1)
+  one-reason t v l e m h = reasons-are (t + 1) (set l t v) (length-set l t v ∙ long) (λ k n. go k n (eqb k t) refl)
+    where
+      long : length l ≡ 64
+      long = ap length e ∙ reasons-long t
+
+      go : (k : ℕ) → k < 64 → (b : Bool) → eqb k t ≡ b → getD (set l t v) k 0 ≡ cond (ltb k (t + 1)) (why k) 0
+      go k n true q = let same = eqb-true k t q in rw (same, lt-ltb t (t + 1) (omega arith)) (getD-set-same l t v 0 (rw long m) ∙ h)
+      go k n false q = let other = eqb-false k t q in getD-set-other l t k v 0 other ∙ rw e (reasons-at t k n) ∙ ap (λ (b : Bool). cond b (why k) 0) (ltb-same k t (t + 1) (λ x. omega arith) (λ x. omega arith))
+
+  -- transition t, after those before it
+  pub one-explained : (t v : ℕ) (ch next : Choice) (l : List ℕ) → ch ≡ taken t → l ≡ reasons t → t < 64
+      → v ≡ reason ch (getD sources t 0) (getD targets t 0) (getD on t 0) (getD off t 0) (getD wait t 0) counts active signals
+      → next ≡ cond (eqb v 0) (takes ch t (getD sources t 0) (getD targets t 0)) ch → (next ≡ taken (t + 1)) × (set l t v ≡ reasons (t + 1))
+  unfolding chosen
+  one-explained t v ch next l e f m h g = (
+    turns-more _ _ t ch next e (g ∙ ap (λ (x : ℕ). cond (eqb x 0) (takes ch t (getD sources t 0) (getD targets t 0)) ch) h),
+    one-reason t v l f m (h ∙ ap (λ (x : Choice). reason x (getD sources t 0) (getD targets t 0) (getD on t 0) (getD off t 0) (getD wait t 0) counts active signals) e),
+  )
+
+  -- there is room for 64, and so for all
+  pub all-explained : (n t : ℕ) (l : List ℕ) → l ≡ reasons t → t ≡ min n 64 → l ≡ reasons n
+  all-explained n t l e h =
+      e ∙ reasons-are n (reasons t) (reasons-long t) (λ k m. reasons-at t k m ∙ ap (λ (b : Bool). cond b (why k) 0) (ltb-same k t n (λ x. omega arith) (λ x. omega arith)))
+
+-- ---- left and entered
 
 record Fair (active k : ℕ) (ch : Choice) : Type 0 where
   left : has (ch .left) k ≡ true → has active k ≡ true
   claimed : has (ch .claimed) k ≡ true → has active k ≡ false
 
--- of a transition that may be taken, the sources are active and the targets are not
-ready-fair : (f g on off active signals : ℕ) (ch : Choice) → ready f g on off active signals ch ≡ true → (Within f active ≡ true) × (Apart g active ≡ true)
-ready-fair f g on off active signals ch e =
-    let a = and-true _ (Apart g (ch .claimed)) e in
-    let b = and-true _ (Apart g active) (a .0) in
-    let c = and-true _ (Apart off signals) (b .0) in
-    let d = and-true _ (Within on signals) (c .0) in
-    (and-true (Within f active) (Apart f (ch .left)) (d .0) .0, b .1)
-
 module _ (sources targets on off wait counts : List ℕ) (active signals k : ℕ) (l : k < 64) where
   fair-turn : (t : ℕ) (ch : Choice) → Fair active k ch → Fair active k (choosingAt sources targets on off wait counts active signals t ch)
-  fair-turn t ch o = go (ready f g (getD on t 0) (getD off t 0) active signals ch && ripe (getD wait t 0) f counts) refl
+  fair-turn t ch o = go (eqb (reason ch f g (getD on t 0) (getD off t 0) (getD wait t 0) counts active signals) 0) refl
     where
       f : ℕ
       f = getD sources t 0
@@ -36,12 +191,12 @@ module _ (sources targets on off wait counts : List ℕ) (active signals k : ℕ
       g : ℕ
       g = getD targets t 0
 
-      go : (b : Bool) → (ready f g (getD on t 0) (getD off t 0) active signals ch && ripe (getD wait t 0) f counts) ≡ b → Fair active k (cond b (takes ch t f g) ch)
+      go : (b : Bool) → eqb (reason ch f g (getD on t 0) (getD off t 0) (getD wait t 0) counts active signals) 0 ≡ b → Fair active k (cond b (takes ch t f g) ch)
       go true e =
-          let r = ready-fair f g (getD on t 0) (getD off t 0) active signals ch (and-true _ (ripe (getD wait t 0) f counts) e .0) in
+          let r = taken-free ch f g (getD on t 0) (getD off t 0) (getD wait t 0) counts active signals e in
           record {
-            left = λ h. either (has (ch .left) k) (has f k) (sym (has-union (ch .left) f k l) ∙ h) (o .left) (within-has f active (r .0) k l);
-            claimed = λ h. either (has (ch .claimed) k) (has g k) (sym (has-union (ch .claimed) g k l) ∙ h) (o .claimed) (apart-has g active (r .1) k l);
+            left = λ h. either (has (ch .left) k) (has f k) (sym (has-union (ch .left) f k l) ∙ h) (o .left) (within-has f active (r .sources) k l);
+            claimed = λ h. either (has (ch .claimed) k) (has g k) (sym (has-union (ch .claimed) g k l) ∙ h) (o .claimed) (apart-has g active (r .targets) k l);
           }
       go false e = o
 

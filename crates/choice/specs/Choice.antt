@@ -1,13 +1,15 @@
 -- 2. "Transitions are taken in number order. One is taken if all its sources were active at the cycle's beginning and are not a source of one
 -- already taken; every "on" signal is 1 and every "off" signal 0; each source's counter has reached the wait; each target was inactive at the
--- beginning and is not a target of one already taken."
+-- beginning and is not a target of one already taken." Document 02, request (vi): "The test answers for each transition: taken; a source not
+-- active; a source used by an earlier one; a signal; a wait; a target occupied; a target claimed by an earlier one. The first in this order counts."
 use Prim.Native.Nat.{ℕ}
 use mathlib.Core.List.{List}
 use mathlib.Core.Bool.{Bool, _&&_, _||_, not, cond}
 use lib.ListN.{getD}
-use lib.Dec.{leb}
-use Rattle.sets.specs.Loops.{all, turns}
+use lib.Dec.{leb, ltb, eqb}
+use Rattle.sets.specs.Loops.{all, orElse, table, turns}
 use Rattle.sets.specs.Sets.{has, Within, Apart, union, insert}
+use Rattle.fields.specs.Fields.{unless}
 use Rattle.choice.specs.declared.Choice.{Choice}
 
 -- step k is no source, or its counter has reached the wait
@@ -17,11 +19,15 @@ ripeAt wait sources k count = not (has sources k) || leb wait count
 abbrev pub ripe : ℕ → ℕ → List ℕ → Bool
 ripe wait sources counts = all (λ k. ripeAt wait sources k (getD counts k 0)) 64
 
--- `active` and `signals` are those of the cycle's beginning
-abbrev pub ready : ℕ → ℕ → ℕ → ℕ → ℕ → ℕ → Choice → Bool
-ready sources targets on off active signals choice =
-    Within sources active && Apart sources (choice .left) && Within on signals && Apart off signals && Apart targets active
-    && Apart targets (choice .claimed)
+-- why a transition is not taken after those of the choice, 0 if it is; `active` and `signals` are those of the cycle's beginning
+unfoldable pub reason : Choice → ℕ → ℕ → ℕ → ℕ → ℕ → List ℕ → ℕ → ℕ → ℕ
+reason choice sources targets on off wait counts active signals =
+    orElse (unless (Within sources active) 1)
+    (orElse (unless (Apart sources (choice .left)) 2)
+    (orElse (unless (Within on signals && Apart off signals) 3)
+    (orElse (unless (ripe wait sources counts) 4)
+    (orElse (unless (Apart targets active) 5)
+    (unless (Apart targets (choice .claimed)) 6)))))
 
 abbrev pub takes : Choice → ℕ → ℕ → ℕ → Choice
 takes choice t sources targets = record {
@@ -30,10 +36,10 @@ takes choice t sources targets = record {
   claimed = union (choice .claimed) targets;
 }
 
--- a transition taken or not, after those of the choice
+-- a transition taken or not, after those of the choice: taken is what nothing speaks against
 abbrev pub choosing : Choice → ℕ → ℕ → ℕ → ℕ → ℕ → ℕ → List ℕ → ℕ → ℕ → Choice
 choosing choice t sources targets on off wait counts active signals =
-    cond (ready sources targets on off active signals choice && ripe wait sources counts) (takes choice t sources targets) choice
+    cond (eqb (reason choice sources targets on off wait counts active signals) 0) (takes choice t sources targets) choice
 
 abbrev pub noneTaken : Choice
 noneTaken = record { taken = 0; left = 0; claimed = 0 }
@@ -45,3 +51,13 @@ choosingAt sources targets on off wait counts active signals t choice =
 unfoldable pub chosen : ℕ → List ℕ → List ℕ → List ℕ → List ℕ → List ℕ → List ℕ → ℕ → ℕ → Choice
 chosen n sources targets on off wait counts active signals =
     turns (choosingAt sources targets on off wait counts active signals) noneTaken n
+
+-- transition t's, after those before it
+abbrev pub reasonAt : List ℕ → List ℕ → List ℕ → List ℕ → List ℕ → List ℕ → ℕ → ℕ → ℕ → ℕ
+reasonAt sources targets on off wait counts active signals t =
+    reason (chosen t sources targets on off wait counts active signals) (getD sources t 0) (getD targets t 0) (getD on t 0) (getD off t 0) (getD wait t 0) counts active signals
+
+-- of 64, n of which there are: "Reasons .. beyond the last transition are 0."
+unfoldable pub reasonsOf : ℕ → List ℕ → List ℕ → List ℕ → List ℕ → List ℕ → List ℕ → ℕ → ℕ → List ℕ
+reasonsOf n sources targets on off wait counts active signals =
+    table (λ t. cond (ltb t n) (reasonAt sources targets on off wait counts active signals t) 0) 64

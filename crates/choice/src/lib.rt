@@ -1,6 +1,17 @@
-// Paragraph 2 of "One cycle", for one transition: whether it is taken, after those that are.
+// Paragraph 2 of "One cycle": whether a transition is taken, after those that are, and if not, why (document 02, request vi).
+pub mod reasons;
+
 ghost use mathlib.Core.Path.{_≡_};
-ghost use Rattle.choice.specs.Choice.{ripe, ready, takes, choosing};
+ghost use mathlib.Core.Bool.{_&&_, cond};
+ghost use lib.Dec.{eqb};
+ghost use Rattle.sets.specs.Sets.{Within, Apart};
+ghost use Rattle.choice.specs.Choice.{ripe, reason, takes, choosing, reasonsOf};
+use reasons::CLAIMED;
+use reasons::NOT_ACTIVE;
+use reasons::OCCUPIED;
+use reasons::SIGNAL;
+use reasons::USED;
+use reasons::WAIT;
 
 // The transitions taken so far, their sources and their targets.
 pub struct Choice {
@@ -25,6 +36,7 @@ fn is_ripe(wait: u32, sources: u64, counts: &[u32; 64]) -> bool
     true
 }
 
+// All tests but the wait's, which is the one that needs a loop.
 fn is_ready(
     sources: u64,
     targets: u64,
@@ -34,7 +46,7 @@ fn is_ready(
     signals: u64,
     choice: Choice,
 ) -> bool
-    ensures { λ r. ⌜ r ≡ ready sources targets on off active signals choice ⌝ }
+    ensures { λ r. ⌜ r ≡ (Within sources active && Apart sources (choice .left) && Within on signals && Apart off signals && Apart targets active && Apart targets (choice .claimed)) ⌝ }
 {
     sets::is_within(sources, active)
         & sets::is_apart(sources, choice.left)
@@ -74,4 +86,89 @@ pub fn choose_one(
         }
     }
     choice
+}
+
+// The first test that fails, in the order of the request: of most transitions that is the first one.
+fn reason_of(
+    choice: Choice,
+    sources: u64,
+    targets: u64,
+    on: u64,
+    off: u64,
+    wait: u32,
+    counts: &[u32; 64],
+    active: u64,
+    signals: u64,
+) -> u8
+    ensures { λ r. ⌜ r ≡ reason choice sources targets on off wait (now (counts .entry)) active signals ⌝ }
+{
+    if !sets::is_within(sources, active) {
+        return NOT_ACTIVE;
+    }
+    if !sets::is_apart(sources, choice.left) {
+        return USED;
+    }
+    if !(sets::is_within(on, signals) & sets::is_apart(off, signals)) {
+        return SIGNAL;
+    }
+    if !is_ripe(wait, sources, counts) {
+        return WAIT;
+    }
+    if !sets::is_apart(targets, active) {
+        return OCCUPIED;
+    }
+    if !sets::is_apart(targets, choice.claimed) {
+        return CLAIMED;
+    }
+    0
+}
+
+fn taking_if(choice: Choice, t: usize, sources: u64, targets: u64, why: u8) -> Choice
+    ensures { λ r. ⌜ r ≡ cond (eqb why 0) (takes choice t sources targets) choice ⌝ }
+{
+    if why == 0 {
+        return taking(choice, t, sources, targets);
+    }
+    choice
+}
+
+// Of each transition in number order, after those taken before it.
+pub fn explain<'a>(
+    n: usize,
+    sources: &'a [u64; 64],
+    targets: &'a [u64; 64],
+    on: &'a [u64; 64],
+    off: &'a [u64; 64],
+    wait: &'a [u32; 64],
+    counts: &'a [u32; 64],
+    active: u64,
+    signals: u64,
+    reasons: &mut [u8; 64],
+)
+    ensures { λ _. ⌜ now (reasons .exit) ≡ reasonsOf n (now (sources .entry)) (now (targets .entry)) (now (on .entry)) (now (off .entry)) (now (wait .entry)) (now (counts .entry)) active signals ⌝ }
+{
+    *reasons = [0; 64];
+    let mut choice = Choice {
+        taken: 0,
+        left: 0,
+        claimed: 0,
+    };
+    let last = chart::at_most(n, 64);
+    let mut t = 0;
+    while t < last {
+        let why = reason_of(
+            choice,
+            sources[t],
+            targets[t],
+            on[t],
+            off[t],
+            wait[t],
+            counts,
+            active,
+            signals,
+        );
+        reasons[t] = why;
+        choice = taking_if(choice, t, sources[t], targets[t], why);
+        t += 1;
+    }
 }

@@ -27,7 +27,7 @@ use Rattle.run.specs.Belongs.{belongs}
 use Rattle.run.specs.declared.run.Run.{Run}
 use Rattle.cycle.specs.Time.{elapsed}
 use Rattle.cycle.specs.Outputs.{outputsOf}
-use Rattle.cycle.specs.Cycling.{startCode, readyCode, lateCode, cycleCode, startOf, cycleOf, outputsAfter}
+use Rattle.cycle.specs.Cycling.{noReasons, startCode, readyCode, lateCode, cycleCode, startOf, cycleOf, outputsAfter}
 use Rattle.cycle.specs.declared.cycling.Cycled.{Cycled}
 use Rattle.cycle.proofs.cycling.Kept.{start-refused, cycle-refused}
 use Rattle.cycle.proofs.cycling.Laws.{few, enough, stops, goes-on, too-late, in-time}
@@ -37,7 +37,7 @@ use Rattle.tally.specs.Weighing.{balanced, unbalancedIn, weighCode, refused, we
 use Rattle.tally.specs.declared.tallying.Tallied.{Tallied}
 use Rattle.tally.specs.declared.weighing.Weighed.{Weighed}
 use Rattle.tally.proofs.weighing.Laws.{weights-refused, balance-refused, accepted}
-use Rattle.claims.specs.Numbers.{record-each, read-each, start-each, cycle-each, tally-each, weigh-each, trace-each, start-code, cycle-code, tally-code, weigh-code, tally-refused, weigh-refused, weigh-names, all-balanced, first-unbalanced, left-alone, front-written, rest-kept}
+use Rattle.claims.specs.Numbers.{record-each, read-each, start-each, cycle-each, tally-each, weigh-each, trace-each, start-code, start-reasons, cycle-code, tally-code, weigh-code, tally-refused, weigh-refused, weigh-names, all-balanced, first-unbalanced, left-alone, front-written, rest-kept}
 
 -- ---- the numbers
 
@@ -139,6 +139,7 @@ pub record StartAnswer (c : Chart) (out : List ℤ) (o : Cycled) : Type 0 where
   pub accepted : 32 ≤ length out → chartCode c ≡ 0 → o .code ≡ 0
   pub no-run : (o .code ≡ 0 → ⊥) → o .run ≡ noRun
   pub takes-nothing : (o .code ≡ 0 → ⊥) → o .taken ≡ 0
+  pub no-reasons : o .reasons ≡ noReasons
   pub untouched : (o .code ≡ 0 → ⊥) → outputsAfter c o out ≡ out
   pub writes : o .code ≡ 0 → take 32 (outputsAfter c o out) ≡ outputsOf (c .actions) (c .output) (c .value) (o .run .activity)
   pub no-others : o .code ≡ 0 → drop 32 (outputsAfter c o out) ≡ drop 32 out
@@ -153,6 +154,7 @@ start-answers c clock out =
       accepted = λ h e. n ∙ sym (enough (chartCode c) (length out) h) ∙ e;
       no-run = λ z. ap (λ (o : Cycled). o .run) (start-refused c clock (length out) z);
       takes-nothing = λ z. ap (λ (o : Cycled). o .taken) (start-refused c clock (length out) z);
+      no-reasons = start-reasons c clock (length out);
       untouched = left-alone c o out;
       writes = front-written c o out;
       no-others = rest-kept c o out;
@@ -167,6 +169,7 @@ pub record CycleAnswer (c : Chart) (r : Run) (clock : ℕ) (out : List ℤ) (o :
   pub accepted : 32 ≤ length out → chartCode c ≡ 0 → belongs c r ≡ true → elapsed (r .clock) clock ≤ 60000 → o .code ≡ 0
   pub same-run : (o .code ≡ 0 → ⊥) → o .run ≡ r
   pub takes-nothing : (o .code ≡ 0 → ⊥) → o .taken ≡ 0
+  pub no-reasons : (o .code ≡ 0 → ⊥) → o .reasons ≡ noReasons
   pub untouched : (o .code ≡ 0 → ⊥) → outputsAfter c o out ≡ out
   pub writes : o .code ≡ 0 → take 32 (outputsAfter c o out) ≡ outputsOf (c .actions) (c .output) (c .value) (o .run .activity)
   pub no-others : o .code ≡ 0 → drop 32 (outputsAfter c o out) ≡ drop 32 out
@@ -189,6 +192,7 @@ cycle-answers c r clock inputs out =
       accepted = λ h e f l. tested h e f ∙ sym (in-time (elapsed (r .clock) clock) l);
       same-run = λ z. ap (λ (o : Cycled). o .run) (cycle-refused c r clock inputs (length out) z);
       takes-nothing = λ z. ap (λ (o : Cycled). o .taken) (cycle-refused c r clock inputs (length out) z);
+      no-reasons = λ z. ap (λ (o : Cycled). o .reasons) (cycle-refused c r clock inputs (length out) z);
       untouched = left-alone c o out;
       writes = front-written c o out;
       no-others = rest-kept c o out;

@@ -2,7 +2,7 @@
 use Prim.{tt}
 use Prim.Native.Nat.{ℕ}
 use mathlib.Core.Bool.{Bool, true, false}
-use mathlib.Core.List.{List, [], _∷_}
+use mathlib.Core.List.{List, [], _∷_, _++_}
 use mathlib.Core.Path.{_≡_, refl}
 use native.Mathlib.Omega.{arith}
 use borrow.Author.Tests.{le-ltb}
@@ -20,7 +20,7 @@ use Rattle.reader.specs.Framing.{recordNumber}
 use Rattle.reader.specs.Bodies.{bodyAt}
 use Rattle.reader.specs.Reading.{readFrom, readChart}
 use Rattle.reader.proofs.reading.Examples.{chartA}
-use Rattle.choice.specs.Choice.{chosen}
+use Rattle.choice.specs.Choice.{reason, chosen, reasonsOf}
 use Rattle.acting.specs.Acting.{request, ripens, asked, acted}
 use Rattle.run.specs.declared.run.Run.{Run}
 use Rattle.cycle.specs.Time.{elapsed}
@@ -102,7 +102,7 @@ pub record Starred : Type 0 where
   pub fork-refused : weighOf fork (2 ∷ 1 ∷ 2 ∷ []) ≡ record { code = 14; transition = 0; total = 0 }
 
 pub starred : Starred
-unfolding chartA all some summed firstCode tableFrom turns collect recordNumber transitionCode bodyAt stepsCode actionsCode transitionsCode blocksCode casesCode someInitial timedFor timedTwice heldCode readFrom chosen marksOf initialSet asked acted first outputsOf weightIn unbalanced
+unfolding chartA all some summed firstCode tableFrom turns collect recordNumber transitionCode bodyAt stepsCode actionsCode transitionsCode blocksCode casesCode someInitial timedFor timedTwice heldCode readFrom reason chosen reasonsOf marksOf initialSet asked acted first outputsOf weightIn unbalanced
 starred = record {
   none-taken = refl;
   three-active = refl;
@@ -125,6 +125,31 @@ starred = record {
   fork-apart = λ clock xs. weighed-apart fork (2 ∷ 1 ∷ 1 ∷ []) refl clock 32 refl xs 0 1 (lit< tt) (lit< tt) (λ e. omega arith) (lit< tt);
   fork-refused = refl;
 }
+
+-- document 02, request (vi), each reason: chart A waits at step 1, for the wait of its second transition; of the rivals the second finds its
+-- target claimed, and in the next cycle occupied
+abbrev reasonsFrom : List ℕ → ℕ → List ℕ
+reasonsFrom l more = l ++ replicate more 0
+
+-- step 0 initial, 0→1 and 0→2, the second by input 0
+abbrev branch : Chart
+branch = withTransition (withTransition (withStep (withStep (withStep noChart 1) 0) 0) 1 2 0 0 0) 1 4 1 0 0
+
+-- the same with input 1 asked of the first
+abbrev asking : Chart
+asking = withTransition (withTransition (withStep (withStep (withStep noChart 1) 0) 0) 1 2 2 0 0) 1 4 1 0 0
+
+pub record Waiting : Type 0 where
+  pub wait : a2 .reasons ≡ reasonsFrom (1 ∷ 4 ∷ []) 62
+  pub claimed : once .reasons ≡ reasonsFrom (0 ∷ 6 ∷ []) 62
+  pub occupied : then rivals (once .run) 20 0 .reasons ≡ reasonsFrom (1 ∷ 5 ∷ []) 62
+  pub used : then branch (began branch 0) 10 1 .reasons ≡ reasonsFrom (0 ∷ 2 ∷ []) 62
+  pub signal : then asking (began asking 0) 10 1 .reasons ≡ reasonsFrom (3 ∷ 0 ∷ []) 62
+  pub late : then asking (began asking 0) 60001 3 .reasons ≡ reasonsFrom [] 64
+
+pub waiting : Waiting
+unfolding chartA all some summed firstCode tableFrom turns collect recordNumber transitionCode bodyAt stepsCode actionsCode transitionsCode blocksCode casesCode someInitial timedFor timedTwice heldCode readFrom reason chosen reasonsOf marksOf initialSet asked acted
+waiting = record { wait = refl; claimed = refl; occupied = refl; used = refl; signal = refl; late = refl }
 
 -- idle (initial), pressurising, venting, recording, recorded: docs/ASSESSOR.md weighs this chart by hand
 abbrev brake : Chart

@@ -6,6 +6,7 @@ pub mod Marks
 pub mod Moves
 pub mod Numbers
 pub mod Pulses
+pub mod Reasons
 pub mod Runs
 pub mod Shifts
 pub mod Sums

@@ -8,13 +8,14 @@ use lib.ListN.{getD}
 use lib.Dec.{eqb, ltb}
 use borrow.Author.Tests.{eq-eqb, ne-eqb, ltb-true, ltb-false}
 use Rattle.sets.specs.Loops.{summed, counted, turns}
-use Rattle.sets.specs.Sets.{has, Within, Apart, union, minus, insert}
-use Rattle.sets.proofs.Loops.{and-true, or-false}
+use Rattle.sets.specs.Sets.{has, union, minus, insert}
+use Rattle.sets.proofs.Loops.{or-false}
 use Rattle.sets.proofs.Members.{has-collect, collect-lt, has-high, has-zero}
 use Rattle.sets.proofs.Below.{has-union, has-minus, within-has, apart-has, either, never}
 use Rattle.sets.proofs.Counts.{counted-same}
-use Rattle.choice.specs.Choice.{ripe, ready, takes, choosingAt, noneTaken, chosen}
+use Rattle.choice.specs.Choice.{reason, takes, choosingAt, noneTaken, chosen}
 use Rattle.choice.specs.declared.Choice.{Choice}
+use Rattle.choice.proofs.Laws.{Free, taken-free}
 use Rattle.cycle.specs.Choosing.{movedTo}
 use Rattle.claims.specs.Runs.{one}
 
@@ -34,7 +35,7 @@ pub record Chosen (sources targets : List ℕ) (active n : ℕ) (ch : Choice) : 
 -- ---- one transition more
 
 -- the set with n has n, and what it had
-has-insert : (s n t : ℕ) → t < 64 → has (insert s n) t ≡ (has s t || eqb t n)
+pub has-insert : (s n t : ℕ) → t < 64 → has (insert s n) t ≡ (has s t || eqb t n)
 has-insert s n t l = has-collect (λ j. has s j || eqb j n) 64 t l
 
 -- and nothing new beyond n
@@ -71,23 +72,6 @@ one-or true false h = refl
 one-or false true h = refl
 one-or false false h = refl
 
--- of a transition that may be taken, the sources are active and left by none before, and the targets neither active nor entered
-record Ready (sources targets active : ℕ) (ch : Choice) : Type 0 where
-  within : Within sources active ≡ true
-  unleft : Apart sources (ch .left) ≡ true
-  idle : Apart targets active ≡ true
-  unclaimed : Apart targets (ch .claimed) ≡ true
-
--- the test of the choosing says so
-ready-is : (s t on off active signals : ℕ) (ch : Choice) → ready s t on off active signals ch ≡ true → Ready s t active ch
-ready-is s t on off active signals ch h =
-    let a = and-true _ (Apart t (ch .claimed)) h in
-    let b = and-true _ (Apart t active) (a .0) in
-    let d = and-true _ (Apart off signals) (b .0) in
-    let e = and-true _ (Within on signals) (d .0) in
-    let f = and-true (Within s active) (Apart s (ch .left)) (e .0) in
-    record { within = f .0; unleft = f .1; idle = b .1; unclaimed = a .1 }
-
 -- ---- the choosing
 
 module _ (sources targets : List ℕ) (active : ℕ) where
@@ -113,16 +97,16 @@ module _ (sources targets : List ℕ) (active : ℕ) where
   }
 
   -- one that is
-  take : (n : ℕ) (ch : Choice) → n < 64 → Chosen sources targets active n ch → Ready (getD sources n 0) (getD targets n 0) active ch
+  take : (n : ℕ) (ch : Choice) → n < 64 → Chosen sources targets active n ch → Free (getD sources n 0) (getD targets n 0) active ch
       → Chosen sources targets active (suc n) (takes ch n (getD sources n 0) (getD targets n 0))
   take n ch m i r = record {
     new = λ t l. none-beyond (ch .taken) n t l (i .new t (omega arith));
-    leaves = λ k l. more sources (ch .left) k l (i .leaves k l) (apart-has (getD sources n 0) (ch .left) (r .unleft) k l);
+    leaves = λ k l. more sources (ch .left) k l (i .leaves k l) (apart-has (getD sources n 0) (ch .left) (r .unused) k l);
     enters = λ k l. more targets (ch .claimed) k l (i .enters k l) (apart-has (getD targets n 0) (ch .claimed) (r .unclaimed) k l);
     was = λ k l h. either (has (ch .left) k) (has (getD sources n 0) k) (sym (has-union (ch .left) (getD sources n 0) k l) ∙ h)
-        (i .was k l) (within-has (getD sources n 0) active (r .within) k l);
+        (i .was k l) (within-has (getD sources n 0) active (r .sources) k l);
     wasnt = λ k l h. either (has (ch .claimed) k) (has (getD targets n 0) k) (sym (has-union (ch .claimed) (getD targets n 0) k l) ∙ h)
-        (i .wasnt k l) (apart-has (getD targets n 0) active (r .idle) k l);
+        (i .wasnt k l) (apart-has (getD targets n 0) active (r .targets) k l);
   }
     where
       more : (l : List ℕ) (s k : ℕ) → k < 64 → among l n (ch .taken) k ≡ one (has s k) → (has (getD l n 0) k ≡ true → has s k ≡ false)
@@ -137,7 +121,7 @@ pub chosen-is : (n : ℕ) (sources targets on off wait counts : List ℕ) (activ
 unfolding chosen turns
 chosen-is zero sources targets on off wait counts active signals h = start sources targets active
 chosen-is (suc n) sources targets on off wait counts active signals h =
-    go (ready f g (getD on n 0) (getD off n 0) active signals now && ripe (getD wait n 0) f counts) refl
+    go (eqb (reason now f g (getD on n 0) (getD off n 0) (getD wait n 0) counts active signals) 0) refl
     (chosen-is n sources targets on off wait counts active signals (omega arith))
   where
     f : ℕ
@@ -149,11 +133,11 @@ chosen-is (suc n) sources targets on off wait counts active signals h =
     now : Choice
     now = turns (choosingAt sources targets on off wait counts active signals) noneTaken n
 
-    go : (b : Bool) → (ready f g (getD on n 0) (getD off n 0) active signals now && ripe (getD wait n 0) f counts) ≡ b
+    go : (b : Bool) → eqb (reason now f g (getD on n 0) (getD off n 0) (getD wait n 0) counts active signals) 0 ≡ b
         → Chosen sources targets active n now → Chosen sources targets active (suc n) (cond b (takes now n f g) now)
     go true e i =
         take sources targets active n now (omega arith) i
-        (ready-is f g (getD on n 0) (getD off n 0) active signals now (and-true _ (ripe (getD wait n 0) f counts) e .0))
+        (taken-free now f g (getD on n 0) (getD off n 0) (getD wait n 0) counts active signals e)
     go false e i = pass sources targets active n now i
 
 -- ---- the move

@@ -27,7 +27,7 @@ use Rattle.run.specs.Belongs.{belongs}
 use Rattle.run.specs.declared.run.Run.{Run}
 use Rattle.cycle.specs.Time.{elapsed}
 use Rattle.cycle.specs.Outputs.{outputsOf}
-use Rattle.cycle.specs.Cycling.{refused as turned-away, startCode, readyCode, lateCode, cycleCode, started, startOf, cycled, cycleOf, outputsAfter}
+use Rattle.cycle.specs.Cycling.{noReasons, refused as turned-away, startCode, readyCode, lateCode, cycleCode, started, startOf, cycled, cycleOf, outputsAfter}
 use Rattle.cycle.specs.declared.cycling.Cycled.{Cycled}
 use Rattle.cycle.proofs.outputs.Laws.{outputs-length}
 use Rattle.trace.specs.Tracing.{isOver, recordFits, traceNumber}
@@ -57,6 +57,14 @@ refused-one code n x y e = go (eqb n 0)
 -- the numbers of start, cycle, tally and weighing are those of their tests
 pub start-code : (c : Chart) (clock lent : ℕ) → startOf c clock lent .code ≡ startCode c lent
 start-code c clock lent = picked (λ (o : Cycled). o .code) (startCode c lent) (started c clock) (turned-away (startCode c lent) noRun) refl refl
+
+-- a start explains nothing, accepted or refused
+pub start-reasons : (c : Chart) (clock lent : ℕ) → startOf c clock lent .reasons ≡ noReasons
+start-reasons c clock lent = go (eqb (startCode c lent) 0)
+  where
+    go : (b : Bool) → cond b (started c clock) (turned-away (startCode c lent) noRun) .reasons ≡ noReasons
+    go true = refl
+    go false = refl
 
 pub cycle-code : (c : Chart) (r : Run) (clock inputs lent : ℕ) → cycleOf c r clock inputs lent .code ≡ cycleCode c r clock lent
 cycle-code c r clock inputs lent =

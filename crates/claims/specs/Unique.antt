@@ -25,9 +25,9 @@ use Rattle.reader.specs.declared.reading.Read.{Read}
 use Rattle.reader.specs.declared.reading.Reading.{Reading}
 use Rattle.reader.proofs.framing.Laws.{record-at-unique}
 use Rattle.reader.proofs.Unique.{from-unique, signed-unique, bits-of-unique, read-chart-unique, read-into-unique}
-use Rattle.choice.specs.Choice.{choosing}
+use Rattle.choice.specs.Choice.{choosing, reasonsOf}
 use Rattle.choice.specs.declared.Choice.{Choice}
-use Rattle.choice.proofs.Unique.{choose-one-unique}
+use Rattle.choice.proofs.Unique.{choose-one-unique, explain-unique}
 use Rattle.acting.specs.Acting.{requestAt, putting, acted}
 use Rattle.acting.specs.declared.Steps.{Steps}
 use Rattle.acting.specs.declared.Request.{Request}
@@ -35,20 +35,22 @@ use Rattle.acting.specs.declared.Asked.{Asked}
 use Rattle.acting.specs.declared.Acted.{Acted}
 use Rattle.acting.proofs.Unique.{asks-unique, put-unique, act-unique}
 use Rattle.run.specs.Run.{noRun, longerCounter, longerTimer}
-use Rattle.run.specs.Apart.{wordsOf, countsOf, timesOf, runOf}
+use Rattle.run.specs.Apart.{wordsOf, countersOf, countsOf, timesOf, runOf}
 use Rattle.run.specs.Belongs.{belongsTo}
 use Rattle.run.specs.declared.apart.Words.{Words}
 use Rattle.run.specs.declared.run.StepCounter.{StepCounter}
 use Rattle.run.specs.declared.run.ActionTimer.{ActionTimer}
 use Rattle.run.specs.declared.run.Run.{Run}
 use Rattle.run.proofs.Unique.{parts-belong-unique, counter-longer-unique, timer-longer-unique, no-run-unique, words-of-unique, counts-of-unique, times-of-unique, run-of-unique}
-use Rattle.cycle.specs.Time.{elapsed}
+use Rattle.cycle.specs.Time.{elapsed, grownCounts}
+use Rattle.cycle.specs.Moving.{signalsOf}
+use Rattle.cycle.specs.Explaining.{keptIf}
 use Rattle.cycle.specs.Cycling.{readyAfter, startOf, cycleOf, outputsAfter}
 use Rattle.cycle.specs.Starting.{begun, startOn}
 use Rattle.cycle.specs.Calling.{InParts, inParts, callsOn}
 use Rattle.cycle.specs.declared.cycling.Cycled.{Cycled}
 use Rattle.cycle.specs.declared.starting.Started.{Started}
-use Rattle.cycle.proofs.Unique.{start-unique, cycle-unique, start-on-unique, ready-code-unique, cycles-on-unique, elapsed-unique}
+use Rattle.cycle.proofs.Unique.{start-unique, cycle-unique, start-on-unique, ready-code-unique, cycles-on-unique, explain-unique as cycle-explain-unique, keep-if-unique, elapsed-unique}
 use Rattle.shift.specs.Shifting.{Done, listsCode, clocksTaken, shiftOf}
 use Rattle.shift.proofs.Unique.{lists-code-unique, clocks-taken-unique, shift-unique}
 use Rattle.trace.specs.Tracing.{callAt, numberOf, traceNumber}
@@ -130,6 +132,8 @@ pub record ReaderUnique : Type 0 where
 pub record ChoiceUnique : Type 0 where
   pub choose-one : (choice : Choice) (t sources targets on off wait : ℕ) (counts : List ℕ) (active signals : ℕ)
       → One (λ (r : Choice). r ≡ choosing choice t sources targets on off wait counts active signals)
+  pub explain : (n : ℕ) (sources targets on off wait counts : List ℕ) (active signals : ℕ)
+      → One (λ (exit : List ℕ). exit ≡ reasonsOf n sources targets on off wait counts active signals)
 
 -- acting/src/lib.rt
 pub record ActingUnique : Type 0 where
@@ -150,7 +154,7 @@ pub record RunUnique : Type 0 where
   pub times-of : (timers : List ActionTimer) → One (λ (r : List ℕ). (r ≡ timesOf timers) × (length timers ≡ 32))
   pub run-of : (words : Words) (counts times : List ℕ) → One (λ (r : Run). r ≡ runOf words counts times)
 
--- cycle/src: calling, cycling, starting, time
+-- cycle/src: calling, cycling, explaining, starting, time
 pub record CycleUnique : Type 0 where
   pub start : (chart : Chart) (clock : ℕ) (outputs : List ℤ)
       → Both (λ (r : Cycled) (exit : List ℤ). (r ≡ startOf chart clock (length outputs)) × (exit ≡ outputsAfter chart r outputs))
@@ -161,6 +165,9 @@ pub record CycleUnique : Type 0 where
       → One (λ (r : ℕ). (r ≡ readyAfter held steps actions cases (runOf words counts times) outputs) × (length counts ≡ 64) × (length times ≡ 32))
   pub cycles-on : (lent : Chart) (words : Words) (counts times clocks inputs activities : List ℕ) (outputs : List ℤ)
       → One (λ (r : InParts). r ≡ inParts (callsOn lent (runOf words counts times) clocks inputs activities outputs))
+  pub explain : (n : ℕ) (sources targets on off wait : List ℕ) (words : Words) (counts : List ℕ) (clock inputs : ℕ)
+      → One (λ (exit : List ℕ). exit ≡ reasonsOf n sources targets on off wait (grownCounts (countersOf counts) (words .active) (elapsed (words .clock) clock)) (words .active) (signalsOf inputs (words .activity)))
+  pub keep-if : (code : ℕ) (reasons : List ℕ) → One (λ (exit : List ℕ). exit ≡ keptIf code reasons)
   pub elapsed : (last new : ℕ) → One (λ (r : ℕ). r ≡ elapsed last new)
 
 -- shift/src: shifting
@@ -254,7 +261,7 @@ unique = record {
     read-chart = read-chart-unique;
     read-into = read-into-unique;
   };
-  choice = record { choose-one = choose-one-unique };
+  choice = record { choose-one = choose-one-unique; explain = explain-unique };
   acting = record { asks = asks-unique; put = put-unique; act = act-unique };
   run = record {
     StepCounter-longer = λ self e. counter-longer-unique e self;
@@ -272,6 +279,8 @@ unique = record {
     start-on = start-on-unique;
     ready-code = λ held steps actions cases words counts times outputs r q a b. ready-code-unique held steps actions cases (runOf words counts times) outputs r q (a .0) (b .0);
     cycles-on = λ lent words counts times. cycles-on-unique lent (runOf words counts times);
+    explain = λ n sources targets on off wait words counts. cycle-explain-unique n sources targets on off wait counts words;
+    keep-if = keep-if-unique;
     elapsed = elapsed-unique;
   };
   shift = record {

@@ -6,9 +6,13 @@ use lib.IntN.{ℤ}
 use lib.ListN.{length}
 use Rattle.sets.proofs.Unique.{one-answer}
 use Rattle.chart.specs.declared.chart.Chart.{Chart}
-use Rattle.run.specs.Apart.{wordsOf}
+use Rattle.choice.specs.Choice.{reasonsOf}
+use Rattle.run.specs.Apart.{wordsOf, countersOf}
+use Rattle.run.specs.declared.apart.Words.{Words}
 use Rattle.run.specs.declared.run.Run.{Run}
-use Rattle.cycle.specs.Time.{elapsed}
+use Rattle.cycle.specs.Time.{elapsed, grownCounts}
+use Rattle.cycle.specs.Moving.{signalsOf}
+use Rattle.cycle.specs.Explaining.{keptIf}
 use Rattle.cycle.specs.Cycling.{readyAfter, startOf, cycleOf, outputsAfter}
 use Rattle.cycle.specs.Starting.{begun, startOn}
 use Rattle.cycle.specs.Calling.{InParts, inParts, callsOn}
@@ -20,6 +24,15 @@ elapsed-unique last new r q = one-answer
 
 pub ready-code-unique : (held steps actions cases : ℕ) (run : Run) (lent r q : ℕ) → r ≡ readyAfter held steps actions cases run lent → q ≡ readyAfter held steps actions cases run lent → r ≡ q
 ready-code-unique held steps actions cases run lent r q = one-answer
+
+-- what is lent, since nothing is returned
+pub explain-unique : (n : ℕ) (sources targets on off wait counts : List ℕ) (words : Words) (clock inputs : ℕ) (f g : List ℕ)
+    → f ≡ reasonsOf n sources targets on off wait (grownCounts (countersOf counts) (words .active) (elapsed (words .clock) clock)) (words .active) (signalsOf inputs (words .activity))
+    → g ≡ reasonsOf n sources targets on off wait (grownCounts (countersOf counts) (words .active) (elapsed (words .clock) clock)) (words .active) (signalsOf inputs (words .activity)) → f ≡ g
+explain-unique n sources targets on off wait counts words clock inputs f g = one-answer
+
+pub keep-if-unique : (code : ℕ) (reasons f g : List ℕ) → f ≡ keptIf code reasons → g ≡ keptIf code reasons → f ≡ g
+keep-if-unique code reasons f g = one-answer
 
 -- the answer, and the lent outputs with it
 both : (c : Chart) (x r q : Cycled) (out f g : List ℤ) → r ≡ x → q ≡ x → f ≡ outputsAfter c r out → g ≡ outputsAfter c q out → (r ≡ q) × (f ≡ g)

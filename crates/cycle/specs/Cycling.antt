@@ -11,7 +11,7 @@ use Rattle.fields.specs.Fields.{unless}
 use Rattle.chart.specs.Held.{chartCode}
 use Rattle.chart.specs.Initial.{initialSet}
 use Rattle.chart.specs.declared.chart.Chart.{Chart}
-use Rattle.choice.specs.Choice.{chosen}
+use Rattle.choice.specs.Choice.{chosen, reasonsOf}
 use Rattle.choice.specs.declared.Choice.{Choice}
 use Rattle.acting.specs.Acting.{asked, acted}
 use Rattle.acting.specs.declared.Steps.{Steps}
@@ -26,8 +26,15 @@ use Rattle.cycle.specs.Outputs.{outputsOf}
 use Rattle.cycle.specs.declared.moving.Marks.{Marks}
 use Rattle.cycle.specs.declared.cycling.Cycled.{Cycled}
 
+-- document 02, request (vi): "Reasons of a start, of a refused call .. are 0."
+abbrev pub noReasons : List ℕ
+noReasons = replicate 64 0
+
 abbrev pub refused : ℕ → Run → Cycled
-refused code run = record { code = code; taken = 0; run = run }
+refused code run = record { code = code; taken = 0; reasons = noReasons; run = run }
+
+abbrev pub accepted : ℕ → List ℕ → Run → Cycled
+accepted taken reasons run = record { code = 0; taken = taken; reasons = reasons; run = run }
 
 -- "Start tests 15 and then the chart"
 abbrev pub startCode : Chart → ℕ → ℕ
@@ -53,22 +60,18 @@ abbrev pub actedOn : Chart → List ℕ → List ℕ → Steps → ℕ → ℕ �
 actedOn c counts times steps stored latched =
     acted (asked (c .blocks) (c .blockstep) (c .blockaction) (c .qualifier) (c .duration) counts times steps) stored latched
 
--- the run after paragraphs 4 to 6, and the transitions taken
-abbrev pub settled : ℕ → ℕ → List ℕ → List ℕ → Steps → Acted → ℕ → ℕ → Cycled
-settled clock taken counts times steps acts good bad = record {
-  code = 0;
-  taken = taken;
-  run = record {
-    clock = clock;
-    active = steps .active;
-    activity = acts .activity;
-    stored = acts .stored;
-    latched = acts .latched;
-    counters = settledCounters counts (steps .kept);
-    timers = settledTimers times (acts .latched);
-    good = good;
-    bad = bad;
-  };
+-- the run after paragraphs 4 to 6
+abbrev pub settled : ℕ → List ℕ → List ℕ → Steps → Acted → ℕ → ℕ → Run
+settled clock counts times steps acts good bad = record {
+  clock = clock;
+  active = steps .active;
+  activity = acts .activity;
+  stored = acts .stored;
+  latched = acts .latched;
+  counters = settledCounters counts (steps .kept);
+  timers = settledTimers times (acts .latched);
+  good = good;
+  bad = bad;
 }
 
 -- "Start makes the initial steps active and entered, none left, all else 0, then does 4 to 6."
@@ -77,7 +80,8 @@ startSteps c = record { active = initialSet (c .steps) (c .initial); entered = i
 
 abbrev pub started : Chart → ℕ → Cycled
 started c clock =
-    settled clock 0 (replicate 64 0) (replicate 32 0) (startSteps c) (actedOn c (replicate 64 0) (replicate 32 0) (startSteps c) 0 0) 0 0
+    accepted 0 noReasons
+    (settled clock (replicate 64 0) (replicate 32 0) (startSteps c) (actedOn c (replicate 64 0) (replicate 32 0) (startSteps c) 0 0) 0 0)
 
 -- "A refused start returns an all-zero run"
 abbrev pub startOf : Chart → ℕ → ℕ → Cycled
@@ -88,19 +92,29 @@ abbrev pub choiceOf : Chart → Run → List ℕ → ℕ → Choice
 choiceOf c r counts signals =
     chosen (c .transitions) (c .sources) (c .targets) (c .on) (c .off) (c .wait) counts (r .active) signals
 
+-- and why each transition is not taken
+abbrev pub reasonsIn : Chart → Run → List ℕ → ℕ → List ℕ
+reasonsIn c r counts signals =
+    reasonsOf (c .transitions) (c .sources) (c .targets) (c .on) (c .off) (c .wait) counts (r .active) signals
+
 abbrev pub marksAt : Chart → ℕ → ℕ → Marks
 marksAt c left signals = marksOf (c .cases) (c .casestep) (c .signal) (c .expected) left signals
 
 -- paragraphs 3 to 6 with what was chosen
-abbrev pub movedBy : Chart → Run → ℕ → List ℕ → List ℕ → ℕ → Choice → Cycled
+abbrev pub movedBy : Chart → Run → ℕ → List ℕ → List ℕ → ℕ → Choice → Run
 movedBy c r clock counts times signals ch =
-    settled clock (ch .taken) counts times (stepsOf (r .active) ch) (actedOn c counts times (stepsOf (r .active) ch) (r .stored) (r .latched))
+    settled clock counts times (stepsOf (r .active) ch) (actedOn c counts times (stepsOf (r .active) ch) (r .stored) (r .latched))
     (union (r .good) (marksAt c (ch .left) signals .good)) (union (r .bad) (marksAt c (ch .left) signals .bad))
+
+-- paragraphs 2 to 6 once counters and timers have grown
+abbrev pub goneOn : Chart → Run → ℕ → List ℕ → List ℕ → ℕ → Cycled
+goneOn c r clock counts times signals =
+    accepted (choiceOf c r counts signals .taken) (reasonsIn c r counts signals) (movedBy c r clock counts times signals (choiceOf c r counts signals))
 
 abbrev pub cycled : Chart → Run → ℕ → ℕ → Cycled
 cycled c r clock inputs =
-    movedBy c r clock (grownCounts (r .counters) (r .active) (elapsed (r .clock) clock)) (grownTimes (r .timers) (r .latched) (elapsed (r .clock) clock)) (signalsOf inputs (r .activity))
-    (choiceOf c r (grownCounts (r .counters) (r .active) (elapsed (r .clock) clock)) (signalsOf inputs (r .activity)))
+    goneOn c r clock (grownCounts (r .counters) (r .active) (elapsed (r .clock) clock)) (grownTimes (r .timers) (r .latched) (elapsed (r .clock) clock))
+    (signalsOf inputs (r .activity))
 
 -- "A refused .. cycle [returns] the run it was given .. with no transition taken"
 abbrev pub cycleOf : Chart → Run → ℕ → ℕ → ℕ → Cycled
@@ -114,9 +128,6 @@ outputsAfter c o out =
 -- an answer with the outputs it leaves
 abbrev pub answered : Chart → List ℤ → Cycled → Cycled × List ℤ
 answered c out o = (o, outputsAfter c o out)
-
-abbrev pub movedOn : Chart → Run → ℕ → ℕ → List ℤ → Cycled × List ℤ
-movedOn c r clock inputs out = answered c out (cycled c r clock inputs)
 
 abbrev pub cycleOn : Chart → Run → ℕ → ℕ → List ℤ → Cycled × List ℤ
 cycleOn c r clock inputs out = answered c out (cycleOf c r clock inputs (length out))

@@ -4,6 +4,7 @@ pub mod Moving
 pub mod Outputs
 pub mod Bounds
 pub mod Cycling
+pub mod Explaining
 pub mod Starting
 pub mod Stepping
 pub mod Calling

@@ -5,13 +5,13 @@ use lib.IntN.{ℤ}
 use lib.ListN.{length, replicate}
 use Rattle.chart.specs.declared.chart.Chart.{Chart}
 use Rattle.run.specs.Apart.{runOf}
-use Rattle.cycle.specs.Cycling.{startOf, answered}
+use Rattle.cycle.specs.Cycling.{noReasons, startOf, answered}
 use Rattle.cycle.specs.declared.cycling.Cycled.{Cycled}
 use Rattle.cycle.specs.declared.starting.Started.{Started}
 
 -- a start's answer with the run put together
 abbrev pub begun : Started → Cycled
-begun s = record { code = s .code; taken = 0; run = runOf (s .words) (replicate 64 0) (replicate 32 0) }
+begun s = record { code = s .code; taken = 0; reasons = noReasons; run = runOf (s .words) (replicate 64 0) (replicate 32 0) }
 
 -- "A refused start returns an all-zero run"
 abbrev pub notBegun : ℕ → Started

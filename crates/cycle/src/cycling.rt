@@ -5,15 +5,18 @@ ghost use Rattle.run.specs.Apart.{runOf};
 ghost use Rattle.cycle.specs.Cycling.{readyAfter, cycleOf, outputsAfter};
 use crate::calling;
 use crate::codes::FEW_OUTPUTS;
+use crate::explaining;
 use chart::Chart;
 use run::Run;
 use run::Words;
 use run::belongs;
 use run::codes::OTHER_RUN;
 
+// The number, the transitions taken, why each of 64 is not (document 02, request vi), and the run.
 pub struct Cycled {
     pub code: u8,
     pub taken: u64,
+    pub reasons: [u8; 64],
     pub run: Run,
 }
 
@@ -42,6 +45,21 @@ pub fn cycle(chart: Chart, run: Run, clock: u32, inputs: u32, outputs: &mut [i32
     let timers = run.timers;
     let mut counts = run::counts_of(counters);
     let mut times = run::times_of(timers);
+    let words = run::words_of(run);
+    let mut reasons = [0u8; 64];
+    explaining::explain(
+        chart.transitions,
+        &chart.sources,
+        &chart.targets,
+        &chart.on,
+        &chart.off,
+        &chart.wait,
+        words,
+        &counts,
+        clock,
+        inputs,
+        &mut reasons,
+    );
     let clocks = [clock];
     let given = [inputs];
     let mut activities = [0u64];
@@ -66,7 +84,7 @@ pub fn cycle(chart: Chart, run: Run, clock: u32, inputs: u32, outputs: &mut [i32
         &chart.casestep,
         &chart.signal,
         &chart.expected,
-        run::words_of(run),
+        words,
         &mut counts,
         &mut times,
         &clocks,
@@ -74,10 +92,12 @@ pub fn cycle(chart: Chart, run: Run, clock: u32, inputs: u32, outputs: &mut [i32
         &mut activities,
         outputs,
     );
+    explaining::keep_if(o.code, &mut reasons);
     let after = o.words;
     Cycled {
         code: o.code,
         taken: o.taken,
+        reasons,
         run: run::run_of(after, counts, times),
     }
 }

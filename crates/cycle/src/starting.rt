@@ -153,6 +153,7 @@ pub fn start(chart: Chart, clock: u32, outputs: &mut [i32]) -> Cycled
     Cycled {
         code: s.code,
         taken: 0,
+        reasons: [0; 64],
         run: run::run_of(words, [0; 64], [0; 32]),
     }
 }

@@ -10,8 +10,7 @@ ghost use Rattle.run.specs.Apart.{countersOf, timersOf, runOf};
 ghost use Rattle.run.specs.Belongs.{countersFit, timersFit};
 ghost use Rattle.cycle.specs.Outputs.{outputsOf};
 ghost use Rattle.cycle.specs.Bounds.{rests, bounded};
-ghost use Rattle.cycle.specs.Cycling.{movedOn};
-ghost use Rattle.cycle.specs.Stepping.{allKept, cycledTo};
+ghost use Rattle.cycle.specs.Stepping.{allKept, movedOn};
 use crate::asking;
 use crate::choosing;
 use crate::moving;
@@ -97,7 +96,7 @@ pub(crate) fn step<'a>(
     outputs: &mut [i32],
 ) -> Stepped
     requires { ⌜ (32 ≤ length (now outputs)) × (countersFit (countersOf (now counts)) (words .active) ≡ true) × (timersFit (timersOf (now times)) (words .latched) ≡ true) ⌝ }
-    ensures { λ r. ⌜ ((cycledTo r (runOf (r .words) (now (counts .exit)) (now (times .exit))), now (outputs .exit)) ≡ movedOn (bounded (chartOf steps actions transitions blocks cases (now (initial .entry)) (now (output .entry)) (now (value .entry)) (now (sources .entry)) (now (targets .entry)) (now (on .entry)) (now (off .entry)) (now (wait .entry)) (now (blockstep .entry)) (now (blockaction .entry)) (now (qualifier .entry)) (now (duration .entry)) (now (casestep .entry)) (now (signal .entry)) (now (expected .entry)))) (runOf words (now (counts .entry)) (now (times .entry))) clock inputs (now (outputs .entry))) × (length (now (counts .exit)) ≡ 64) × (length (now (times .exit)) ≡ 32) ⌝ }
+    ensures { λ r. ⌜ ((r .taken, runOf (r .words) (now (counts .exit)) (now (times .exit)), now (outputs .exit)) ≡ movedOn (bounded (chartOf steps actions transitions blocks cases (now (initial .entry)) (now (output .entry)) (now (value .entry)) (now (sources .entry)) (now (targets .entry)) (now (on .entry)) (now (off .entry)) (now (wait .entry)) (now (blockstep .entry)) (now (blockaction .entry)) (now (qualifier .entry)) (now (duration .entry)) (now (casestep .entry)) (now (signal .entry)) (now (expected .entry)))) (runOf words (now (counts .entry)) (now (times .entry))) clock inputs (now (outputs .entry))) × (length (now (counts .exit)) ≡ 64) × (length (now (times .exit)) ≡ 32) ⌝ }
 {
     let e = time::elapsed(words.clock, clock);
     time::grow_counts(counts, words.active, e);

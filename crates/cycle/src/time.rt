@@ -28,6 +28,21 @@ pub(crate) fn grow_counts(counts: &mut [u32], active: u64, e: u32)
     }
 }
 
+// The same beside them, whatever they are: for the reasons, which are worked out before a run is tested.
+pub(crate) fn grown_counts(counts: &[u32; 64], active: u64, e: u32) -> [u32; 64]
+    ensures { λ r. ⌜ r ≡ grownCounts (countersOf (now (counts .entry))) active e ⌝ }
+{
+    let mut grown = [0u32; 64];
+    let mut rest = active;
+    while rest != 0 {
+        let k = sets::first(rest);
+        let c = StepCounter(counts[k]).longer(e);
+        grown[k] = c.0;
+        rest = sets::without_first(rest);
+    }
+    grown
+}
+
 pub(crate) fn grow_times(times: &mut [u32], latched: u64, e: u32)
     requires { ⌜ (length (now times) ≡ 32) × (timersFit (timersOf (now times)) latched ≡ true) ⌝ }
     ensures { λ _. ⌜ now (times .exit) ≡ grownTimes (timersOf (now (times .entry))) latched e ⌝ }

@@ -30,12 +30,12 @@ Lies = Words × List ℕ × List ℕ
 abbrev pub lying : Run → Lies
 lying r = (wordsOf r, countsOf (r .counters), timesOf (r .timers))
 
--- a start or a cycle: the number, the transitions taken, the run and the outputs
+-- a start or a cycle: the number, the transitions taken, the reasons of the others, the run and the outputs
 abbrev pub Left : Type 0
-Left = ℕ × ℕ × Lies × List ℤ
+Left = ℕ × ℕ × List ℕ × Lies × List ℤ
 
 abbrev pub left : Cycled × List ℤ → Left
-left (o, out) = (o .code, o .taken, lying (o .run), out)
+left (o, out) = (o .code, o .taken, o .reasons, lying (o .run), out)
 
 -- a shift: the number, how many cycles were accepted, the run, the activity words and the outputs
 abbrev pub ShiftLeft : Type 0

@@ -2,7 +2,7 @@
 ghost use mathlib.Core.Path.{_≡_};
 ghost use Rattle.chart.specs.Chart.{chartOf};
 ghost use Rattle.run.specs.Apart.{runOf};
-ghost use Rattle.cycle.specs.Cycling.{cycleOn};
+ghost use Rattle.cycle.specs.Cycling.{noReasons, cycleOn};
 ghost use Rattle.cycle.specs.Starting.{startOn};
 ghost use Rattle.shift.specs.Shifting.{shiftOf};
 ghost use Rattle.engine.specs.Lent.{wordsAt, left, shiftLeft};
@@ -65,7 +65,7 @@ pub extern "C" fn tolwaziho_start<'a>(
     new: u32,
     outputs: &mut [i32],
 ) -> u8
-    ensures { λ r. ⌜ (r, 0, (wordsAt (now (clock .exit)) (now (active .exit)) (now (activity .exit)) (now (stored .exit)) (now (latched .exit)) (now (good .exit)) (now (bad .exit)), now (counters .exit), now (timers .exit)), now (outputs .exit)) ≡ left (startOn (chartOf steps actions transitions blocks cases (now (initial .entry)) (now (output .entry)) (now (value .entry)) (now (sources .entry)) (now (targets .entry)) (now (on .entry)) (now (off .entry)) (now (wait .entry)) (now (blockstep .entry)) (now (blockaction .entry)) (now (qualifier .entry)) (now (duration .entry)) (now (casestep .entry)) (now (signal .entry)) (now (expected .entry))) new (now (outputs .entry))) ⌝ }
+    ensures { λ r. ⌜ (r, 0, noReasons, (wordsAt (now (clock .exit)) (now (active .exit)) (now (activity .exit)) (now (stored .exit)) (now (latched .exit)) (now (good .exit)) (now (bad .exit)), now (counters .exit), now (timers .exit)), now (outputs .exit)) ≡ left (startOn (chartOf steps actions transitions blocks cases (now (initial .entry)) (now (output .entry)) (now (value .entry)) (now (sources .entry)) (now (targets .entry)) (now (on .entry)) (now (off .entry)) (now (wait .entry)) (now (blockstep .entry)) (now (blockaction .entry)) (now (qualifier .entry)) (now (duration .entry)) (now (casestep .entry)) (now (signal .entry)) (now (expected .entry))) new (now (outputs .entry))) ⌝ }
 {
     let o = cycle::start_on(
         steps,
@@ -97,7 +97,7 @@ pub extern "C" fn tolwaziho_start<'a>(
     o.code
 }
 
-// One cycle: the number, and the transitions taken.
+// One cycle: the number, the transitions taken, and why each of the others is not.
 #[no_mangle]
 pub extern "C" fn tolwaziho_cycle<'a>(
     steps: usize,
@@ -133,8 +133,9 @@ pub extern "C" fn tolwaziho_cycle<'a>(
     inputs: u32,
     outputs: &mut [i32],
     taken: &mut u64,
+    reasons: &mut [u8; 64],
 ) -> u8
-    ensures { λ r. ⌜ (r, now (taken .exit), (wordsAt (now (clock .exit)) (now (active .exit)) (now (activity .exit)) (now (stored .exit)) (now (latched .exit)) (now (good .exit)) (now (bad .exit)), now (counters .exit), now (timers .exit)), now (outputs .exit)) ≡ left (cycleOn (chartOf steps actions transitions blocks cases (now (initial .entry)) (now (output .entry)) (now (value .entry)) (now (sources .entry)) (now (targets .entry)) (now (on .entry)) (now (off .entry)) (now (wait .entry)) (now (blockstep .entry)) (now (blockaction .entry)) (now (qualifier .entry)) (now (duration .entry)) (now (casestep .entry)) (now (signal .entry)) (now (expected .entry))) (runOf (wordsAt (now (clock .entry)) (now (active .entry)) (now (activity .entry)) (now (stored .entry)) (now (latched .entry)) (now (good .entry)) (now (bad .entry))) (now (counters .entry)) (now (timers .entry))) new inputs (now (outputs .entry))) ⌝ }
+    ensures { λ r. ⌜ (r, now (taken .exit), now (reasons .exit), (wordsAt (now (clock .exit)) (now (active .exit)) (now (activity .exit)) (now (stored .exit)) (now (latched .exit)) (now (good .exit)) (now (bad .exit)), now (counters .exit), now (timers .exit)), now (outputs .exit)) ≡ left (cycleOn (chartOf steps actions transitions blocks cases (now (initial .entry)) (now (output .entry)) (now (value .entry)) (now (sources .entry)) (now (targets .entry)) (now (on .entry)) (now (off .entry)) (now (wait .entry)) (now (blockstep .entry)) (now (blockaction .entry)) (now (qualifier .entry)) (now (duration .entry)) (now (casestep .entry)) (now (signal .entry)) (now (expected .entry))) (runOf (wordsAt (now (clock .entry)) (now (active .entry)) (now (activity .entry)) (now (stored .entry)) (now (latched .entry)) (now (good .entry)) (now (bad .entry))) (now (counters .entry)) (now (timers .entry))) new inputs (now (outputs .entry))) ⌝ }
 {
     let words = Words {
         clock: *clock,
@@ -145,6 +146,19 @@ pub extern "C" fn tolwaziho_cycle<'a>(
         good: *good,
         bad: *bad,
     };
+    cycle::explain(
+        transitions,
+        sources,
+        targets,
+        on,
+        off,
+        wait,
+        words,
+        counters,
+        new,
+        inputs,
+        reasons,
+    );
     let clocks = [new];
     let given = [inputs];
     let mut activities = [0u64];
@@ -177,6 +191,7 @@ pub extern "C" fn tolwaziho_cycle<'a>(
         &mut activities,
         outputs,
     );
+    cycle::keep_if(o.code, reasons);
     put_words(o.words, clock, active, activity, stored, latched, good, bad);
     *taken = o.taken;
     o.code
@@ -303,8 +318,9 @@ pub extern "C" fn tolwaziho_advance<'a>(
     inputs: u32,
     outputs: &mut [i32],
     taken: &mut u64,
+    reasons: &mut [u8; 64],
 ) -> u8
-    ensures { λ r. ⌜ (r, now (taken .exit), (wordsAt (now (clock .exit)) (now (active .exit)) (now (activity .exit)) (now (stored .exit)) (now (latched .exit)) (now (good .exit)) (now (bad .exit)), now (counters .exit), now (timers .exit)), now (outputs .exit)) ≡ left (cycleOn (chartOf steps actions transitions blocks cases (now (initial .entry)) (now (output .entry)) (now (value .entry)) (now (sources .entry)) (now (targets .entry)) (now (on .entry)) (now (off .entry)) (now (wait .entry)) (now (blockstep .entry)) (now (blockaction .entry)) (now (qualifier .entry)) (now (duration .entry)) (now (casestep .entry)) (now (signal .entry)) (now (expected .entry))) (runOf (wordsAt (now (clock .entry)) (now (active .entry)) (now (activity .entry)) (now (stored .entry)) (now (latched .entry)) (now (good .entry)) (now (bad .entry))) (now (counters .entry)) (now (timers .entry))) new inputs (now (outputs .entry))) ⌝ }
+    ensures { λ r. ⌜ (r, now (taken .exit), now (reasons .exit), (wordsAt (now (clock .exit)) (now (active .exit)) (now (activity .exit)) (now (stored .exit)) (now (latched .exit)) (now (good .exit)) (now (bad .exit)), now (counters .exit), now (timers .exit)), now (outputs .exit)) ≡ left (cycleOn (chartOf steps actions transitions blocks cases (now (initial .entry)) (now (output .entry)) (now (value .entry)) (now (sources .entry)) (now (targets .entry)) (now (on .entry)) (now (off .entry)) (now (wait .entry)) (now (blockstep .entry)) (now (blockaction .entry)) (now (qualifier .entry)) (now (duration .entry)) (now (casestep .entry)) (now (signal .entry)) (now (expected .entry))) (runOf (wordsAt (now (clock .entry)) (now (active .entry)) (now (activity .entry)) (now (stored .entry)) (now (latched .entry)) (now (good .entry)) (now (bad .entry))) (now (counters .entry)) (now (timers .entry))) new inputs (now (outputs .entry))) ⌝ }
 {
     let words = Words {
         clock: *clock,
@@ -348,9 +364,11 @@ pub extern "C" fn tolwaziho_advance<'a>(
     let after = run::words_of(run);
     let counted = run.counters;
     let timed = run.timers;
+    let waiting = o.reasons;
     put_words(after, clock, active, activity, stored, latched, good, bad);
     *counters = run::counts_of(counted);
     *timers = run::times_of(timed);
     *taken = o.taken;
+    *reasons = waiting;
     o.code
 }

@@ -13,7 +13,7 @@ use Rattle.lent.specs.Advancing.{asCycled}
 use Rattle.lent.specs.declared.advancing.Advanced.{Advanced}
 
 abbrev answered : Cycled → Advanced
-answered o = record { code = o .code; taken = o .taken }
+answered o = record { code = o .code; taken = o .taken; reasons = o .reasons }
 
 -- the answer, the run that was left, and the lent outputs
 pub advance-unique : (c : Chart) (run : Run) (clock inputs : ℕ) (r q : Advanced) (s t : Run) (out f g : List ℤ)

@@ -7,9 +7,11 @@ use chart::Chart;
 use cycle::Cycled;
 use run::Run;
 
+// A cycle's answer without its run: the number, the transitions taken, and why each of 64 is not.
 pub struct Advanced {
     pub code: u8,
     pub taken: u64,
+    pub reasons: [u8; 64],
 }
 
 pub fn advance(
@@ -27,6 +29,7 @@ pub fn advance(
     Advanced {
         code: c.code,
         taken: c.taken,
+        reasons: c.reasons,
     }
 }
 
@@ -39,6 +42,7 @@ pub fn lent_cycle(chart: Chart, run: Run, clock: u32, inputs: u32, outputs: &mut
     Cycled {
         code: a.code,
         taken: a.taken,
+        reasons: a.reasons,
         run: held,
     }
 }

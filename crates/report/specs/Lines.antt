@@ -4,7 +4,9 @@ use Prim.Native.Char.{code}
 use Prim.Native.String.{String, [] as nothing, _∷_ as _then_}
 use mathlib.Core.Bool.{cond}
 use mathlib.Core.List.{List, [], _∷_, _++_}
+use lib.ListN.{getD}
 use lib.Dec.{ltb}
+use Rattle.sets.specs.Loops.{table}
 
 -- the bytes of a text
 abbrev pub text : String → List ℕ
@@ -37,6 +39,11 @@ acceptedLine number active activity taken =
 -- "A refused cycle prints its number, `refused` and the code"
 unfoldable pub refusedLine : ℕ → ℕ → List ℕ
 refusedLine number code = decimal number ++ (text " refused " ++ decimal code) ++ text "\n"
+
+-- document 02, request (vi): "a second line with the reason of every transition in number order as one digit, counting 'a source not active' as
+-- 1 and so on to 6"; of n transitions
+unfoldable pub reasonsLine : ℕ → List ℕ → List ℕ
+reasonsLine n reasons = table (λ t. digit (getD reasons t 0)) n ++ text "\n"
 
 -- "A bad chart prints `refused chart` and the code"
 unfoldable pub chartLine : ℕ → List ℕ

@@ -1,6 +1,6 @@
--- "The printed run": its lines one by one, and all of it.
+-- "The printed run": its lines call by call, and all of it.
 use Prim.Native.Nat.{ℕ, zero, suc, _+_, _/_, _≤_}
-use mathlib.Core.Bool.{Bool, true, false, cond}
+use mathlib.Core.Bool.{Bool, true, false, _&&_, cond}
 use mathlib.Core.List.{List, [], _++_}
 use mathlib.Core.Path.{_≡_}
 use lib.ListN.{length}
@@ -17,7 +17,7 @@ use Rattle.trace.specs.declared.tracing.Call.{Call}
 use Rattle.trace.specs.declared.tracing.Call.the-variants.{Start, Cycle, End, Refused}
 use Rattle.tally.specs.Tallying.{tallyOf}
 use Rattle.tally.specs.declared.tallying.Tallied.{Tallied}
-use Rattle.report.specs.Lines.{acceptedLine, refusedLine, chartLine, traceLine, tallyLine}
+use Rattle.report.specs.Lines.{acceptedLine, refusedLine, reasonsLine, chartLine, traceLine, tallyLine}
 use Rattle.report.specs.declared.printing.Standing.{Standing}
 use Rattle.report.specs.declared.printing.Printed.{Printed}
 
@@ -30,6 +30,13 @@ callLine number code active activity taken =
 abbrev pub lineOf : ℕ → Cycled → List ℕ
 lineOf number o = callLine number (o .code) (o .run .active) (o .run .activity) (o .taken)
 
+-- document 02, request (vi): "bench-run, when an accepted cycle takes nothing, prints a second line with the reason of every transition"
+abbrev pub secondLine : ℕ → Cycled → List ℕ
+secondLine transitions o = cond (eqb (o .code) 0 && eqb (o .taken) 0) (reasonsLine transitions (o .reasons)) []
+
+abbrev pub cycleLines : Chart → ℕ → Cycled → List ℕ
+cycleLines c number o = lineOf number o ++ secondLine (c .transitions) o
+
 -- a refused tally prints as a refused call, not as three counts; in a printed run it is never refused
 abbrev pub closingLine : ℕ → Tallied → List ℕ
 closingLine number t = cond (eqb (t .code) 0) (tallyLine (t .passed) (t .failed) (t .notrun)) (refusedLine number (t .code))
@@ -40,7 +47,7 @@ closingLine number t = cond (eqb (t .code) 0) (tallyLine (t .passed) (t .failed)
 -- returned; "A refused cycle .. and the run goes on"; "Otherwise the tally ends the run". The bench lends 32 outputs.
 abbrev pub printedAt : Chart → ℕ → ℕ → Run → Call → (ℕ → Run → List ℕ) → List ℕ
 printedAt c n at run (Start clock) onward = lineOf n (startOf c clock 32) ++ onward (at + 8) (startOf c clock 32 .run)
-printedAt c n at run (Cycle clock inputs) onward = lineOf n (cycleOf c run clock inputs 32) ++ onward (at + 12) (cycleOf c run clock inputs 32 .run)
+printedAt c n at run (Cycle clock inputs) onward = cycleLines c n (cycleOf c run clock inputs 32) ++ onward (at + 12) (cycleOf c run clock inputs 32 .run)
 printedAt c n at run End onward = tallyLine (tallyOf c run .passed) (tallyOf c run .failed) (tallyOf c run .notrun)
 printedAt c n at run Refused onward = traceLine
 
@@ -72,7 +79,7 @@ unmoved standing = record { length = 0; standing = standing }
 
 abbrev pub lineFor : Chart → ℕ → Run → Call → List ℕ
 lineFor c at run (Start clock) = lineOf (numberAt at) (startOf c clock 32)
-lineFor c at run (Cycle clock inputs) = lineOf (numberAt at) (cycleOf c run clock inputs 32)
+lineFor c at run (Cycle clock inputs) = cycleLines c (numberAt at) (cycleOf c run clock inputs 32)
 lineFor c at run End = closingLine (numberAt at) (tallyOf c run)
 lineFor c at run Refused = traceLine
 
@@ -82,13 +89,13 @@ standingFor c at run (Cycle clock inputs) = record { done = false; at = at + 12;
 standingFor c at run End = record { done = true; at = at; run = run }
 standingFor c at run Refused = record { done = true; at = at; run = run }
 
--- a line t put at the front of the bytes e, and where the printing then stands
+-- a line t, or a cycle's two, put at the front of the bytes e, and where the printing then stands
 pub record Prints (e t : List ℕ) (then : Standing) (now : List ℕ) (r : Printed) : Type 0 where
   pub line : now ≡ over e 0 t
   pub answer : r ≡ record { length = length t; standing = then }
-  pub short : length t ≤ 84
+  pub short : length t ≤ 129
 
--- the next line, none when it is done; `code` is the reading's number
+-- the next line, with a cycle's second behind it, none when it is done; `code` is the reading's number
 unfoldable pub nextLine : ℕ → Chart → List ℕ → Standing → List ℕ
 nextLine code c s st =
     cond (st .done) [] (cond (eqb code 0) (lineFor c (st .at) (st .run) (callAt s (st .at))) (chartLine code))
@@ -98,13 +105,13 @@ nextStanding code c s st =
     cond (st .done) st
     (cond (eqb code 0) (standingFor c (st .at) (st .run) (callAt s (st .at))) (record { done = true; at = st .at; run = st .run }))
 
--- a lent buffer of fewer than 84 bytes is refused: no line, and the printing stands where it stood
+-- a lent buffer of fewer than 129 bytes is refused: no line, and the printing stands where it stood
 abbrev pub printedOf : ℕ → ℕ → Chart → List ℕ → Standing → Printed
 printedOf lent code c s st =
-    cond (leb 84 lent) (record { length = length (nextLine code c s st); standing = nextStanding code c s st }) (unmoved st)
+    cond (leb 129 lent) (record { length = length (nextLine code c s st); standing = nextStanding code c s st }) (unmoved st)
 
 abbrev pub lineAfter : ℕ → Chart → List ℕ → Standing → List ℕ → List ℕ
-lineAfter code c s st line = cond (leb 84 (length line)) (over line 0 (nextLine code c s st)) line
+lineAfter code c s st line = cond (leb 129 (length line)) (over line 0 (nextLine code c s st)) line
 
 -- ---- step after step: where the printing then stands, and the lines in their order
 

@@ -1,4 +1,4 @@
-// The printed run, a line at a time (document 01, "The printed run").
+// The printed run, a call's lines at a time (document 01, "The printed run"; document 02, request vi).
 pub mod lines;
 pub mod printing;
 

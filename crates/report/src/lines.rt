@@ -1,13 +1,13 @@
 // The lines of the printed run, byte for byte, at the front of a lent buffer; what lies behind a line stays.
-ghost use Prim.Native.Nat.{_+_, _≤_, _<_};
+ghost use Prim.Native.Nat.{ℕ, _+_, _≤_, _<_};
 ghost use mathlib.Core.List.{_++_};
 ghost use mathlib.Core.Path.{_≡_};
-ghost use lib.ListN.{length};
+ghost use lib.ListN.{length, getD};
 ghost use Rattle.sets.specs.Bytes.{Put};
-ghost use Rattle.report.specs.Lines.{text, digit, hex, decimal, acceptedLine, refusedLine, chartLine, traceLine, tallyLine};
+ghost use Rattle.report.specs.Lines.{text, digit, hex, decimal, acceptedLine, refusedLine, reasonsLine, chartLine, traceLine, tallyLine};
 
-// The longest line: the tally with three numbers of twenty digits.
-pub const LINE: usize = 84;
+// The most that one call prints: the line of an accepted cycle, 64 bytes, and behind it 64 digits and a line end.
+pub const LINE: usize = 129;
 
 fn digit(d: u64) -> u8
     requires { ⌜ d < 16 ⌝ }
@@ -78,8 +78,8 @@ pub(crate) fn accepted_line(
     activity: u64,
     taken: u64,
 ) -> usize
-    requires { ⌜ 84 ≤ length (now line) ⌝ }
-    ensures { λ r. ⌜ Put (now (line .entry)) 0 (acceptedLine number active activity taken) (now (line .exit)) r × (r ≤ 84) ⌝ }
+    requires { ⌜ 129 ≤ length (now line) ⌝ }
+    ensures { λ r. ⌜ Put (now (line .entry)) 0 (acceptedLine number active activity taken) (now (line .exit)) r × (r ≤ 64) ⌝ }
 {
     let a = put_decimal(line, 0, number);
     let b = put_word(line, a, 16, active);
@@ -89,32 +89,45 @@ pub(crate) fn accepted_line(
 }
 
 pub(crate) fn refused_line(line: &mut [u8], number: u64, code: u8) -> usize
-    requires { ⌜ 84 ≤ length (now line) ⌝ }
-    ensures { λ r. ⌜ Put (now (line .entry)) 0 (refusedLine number code) (now (line .exit)) r × (r ≤ 84) ⌝ }
+    requires { ⌜ 129 ≤ length (now line) ⌝ }
+    ensures { λ r. ⌜ Put (now (line .entry)) 0 (refusedLine number code) (now (line .exit)) r × (r ≤ 64) ⌝ }
 {
     let a = put_decimal(line, 0, number);
     let b = put_named(line, a, b" refused ", code as u64);
     put(line, b, b"\n")
 }
 
+// A digit for each of the first n reasons, and the line end.
+pub(crate) fn reasons_line(line: &mut [u8], at: usize, n: usize, reasons: &[u8; 64]) -> usize
+    requires { ⌜ (at + (n + 1) ≤ length (now line)) × (n ≤ 64) × ((k : ℕ) → k < 64 → getD (now reasons) k 0 ≤ 6) ⌝ }
+    ensures { λ r. ⌜ Put (now (line .entry)) at (reasonsLine n (now (reasons .entry))) (now (line .exit)) r ⌝ }
+{
+    let mut t = 0;
+    while t < n {
+        line[at + t] = digit(reasons[t] as u64);
+        t += 1;
+    }
+    put(line, at + n, b"\n")
+}
+
 pub(crate) fn chart_line(line: &mut [u8], code: u8) -> usize
-    requires { ⌜ 84 ≤ length (now line) ⌝ }
-    ensures { λ r. ⌜ Put (now (line .entry)) 0 (chartLine code) (now (line .exit)) r × (r ≤ 84) ⌝ }
+    requires { ⌜ 129 ≤ length (now line) ⌝ }
+    ensures { λ r. ⌜ Put (now (line .entry)) 0 (chartLine code) (now (line .exit)) r × (r ≤ 129) ⌝ }
 {
     let a = put_named(line, 0, b"refused chart ", code as u64);
     put(line, a, b"\n")
 }
 
 pub(crate) fn trace_line(line: &mut [u8]) -> usize
-    requires { ⌜ 84 ≤ length (now line) ⌝ }
-    ensures { λ r. ⌜ Put (now (line .entry)) 0 traceLine (now (line .exit)) r × (r ≤ 84) ⌝ }
+    requires { ⌜ 129 ≤ length (now line) ⌝ }
+    ensures { λ r. ⌜ Put (now (line .entry)) 0 traceLine (now (line .exit)) r × (r ≤ 129) ⌝ }
 {
     put(line, 0, b"refused trace 16\n")
 }
 
 pub(crate) fn tally_line(line: &mut [u8], passed: usize, failed: usize, notrun: usize) -> usize
-    requires { ⌜ 84 ≤ length (now line) ⌝ }
-    ensures { λ r. ⌜ Put (now (line .entry)) 0 (tallyLine passed failed notrun) (now (line .exit)) r × (r ≤ 84) ⌝ }
+    requires { ⌜ 129 ≤ length (now line) ⌝ }
+    ensures { λ r. ⌜ Put (now (line .entry)) 0 (tallyLine passed failed notrun) (now (line .exit)) r × (r ≤ 129) ⌝ }
 {
     let a = put_named(line, 0, b"passed ", passed as u64);
     let b = put_named(line, a, b" failed ", failed as u64);

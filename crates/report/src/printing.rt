@@ -1,13 +1,15 @@
-// The printed run, a line at a time: the caller keeps where the printing stands and hands it in again.
-ghost use Prim.Native.Nat.{_≤_};
+// The printed run, a call's lines at a time: the caller keeps where the printing stands and hands it in again.
+ghost use Prim.Native.Nat.{ℕ, _≤_, _<_};
+ghost use mathlib.Core.List.{_++_};
 ghost use mathlib.Core.Path.{_≡_};
-ghost use lib.ListN.{length};
+ghost use lib.ListN.{length, getD};
 ghost use Rattle.sets.specs.Bytes.{Put};
 ghost use Rattle.trace.specs.Tracing.{callAt};
-ghost use Rattle.report.specs.Printing.{callLine, closingLine, numberAt, opening, unmoved, stepped, Prints, lineFor, standingFor, printedOf, lineAfter};
+ghost use Rattle.report.specs.Printing.{callLine, lineOf, secondLine, closingLine, numberAt, opening, unmoved, stepped, Prints, lineFor, standingFor, printedOf, lineAfter};
 use crate::lines;
 use crate::lines::LINE;
 use chart::Chart;
+use cycle::Cycled;
 use run::Run;
 use run::no_run;
 use tally::Tallied;
@@ -20,7 +22,7 @@ pub struct Standing {
     pub run: Run,
 }
 
-// How long the line is, and where the printing then stands. A length of 0: nothing was printed.
+// How many bytes were printed, and where the printing then stands. A length of 0: nothing was printed.
 pub struct Printed {
     pub length: usize,
     pub standing: Standing,
@@ -51,8 +53,8 @@ fn call_line(
     activity: u64,
     taken: u64,
 ) -> usize
-    requires { ⌜ 84 ≤ length (now line) ⌝ }
-    ensures { λ r. ⌜ Put (now (line .entry)) 0 (callLine number code active activity taken) (now (line .exit)) r × (r ≤ 84) ⌝ }
+    requires { ⌜ 129 ≤ length (now line) ⌝ }
+    ensures { λ r. ⌜ Put (now (line .entry)) 0 (callLine number code active activity taken) (now (line .exit)) r × (r ≤ 64) ⌝ }
 {
     if code != 0 {
         return lines::refused_line(line, number, code);
@@ -60,9 +62,22 @@ fn call_line(
     lines::accepted_line(line, number, active, activity, taken)
 }
 
+// A cycle's line, and behind it the reasons, if it was accepted and took nothing (document 02, request vi).
+fn cycle_lines(line: &mut [u8], number: u64, transitions: usize, o: Cycled) -> usize
+    requires { ⌜ (129 ≤ length (now line)) × (o .code ≡ 0 → transitions ≤ 64) × ((k : ℕ) → k < 64 → getD (o .reasons) k 0 ≤ 6) ⌝ }
+    ensures { λ r. ⌜ Put (now (line .entry)) 0 (lineOf number o ++ secondLine transitions o) (now (line .exit)) r × (r ≤ 129) ⌝ }
+{
+    let run = o.run;
+    let length = call_line(line, number, o.code, run.active, run.activity, o.taken);
+    if (o.code == 0) & (o.taken == 0) {
+        return lines::reasons_line(line, length, transitions, &o.reasons);
+    }
+    length
+}
+
 fn closing_line(line: &mut [u8], number: u64, t: Tallied) -> usize
-    requires { ⌜ 84 ≤ length (now line) ⌝ }
-    ensures { λ r. ⌜ Put (now (line .entry)) 0 (closingLine number t) (now (line .exit)) r × (r ≤ 84) ⌝ }
+    requires { ⌜ 129 ≤ length (now line) ⌝ }
+    ensures { λ r. ⌜ Put (now (line .entry)) 0 (closingLine number t) (now (line .exit)) r × (r ≤ 129) ⌝ }
 {
     if t.code != 0 {
         return lines::refused_line(line, number, t.code);
@@ -89,7 +104,7 @@ fn stepped(length: usize, done: bool, at: usize, run: Run) -> Printed
 }
 
 fn print_call(chart: Chart, trace: &[u8], at: usize, run: Run, line: &mut [u8]) -> Printed
-    requires { ⌜ 84 ≤ length (now line) ⌝ }
+    requires { ⌜ 129 ≤ length (now line) ⌝ }
     ensures { λ r. ⌜ Prints (now (line .entry)) (lineFor chart at run (callAt (now (trace .entry)) at)) (standingFor chart at run (callAt (now (trace .entry)) at)) (now (line .exit)) r ⌝ }
 {
     let number = number_at(at);
@@ -106,7 +121,7 @@ fn print_call(chart: Chart, trace: &[u8], at: usize, run: Run, line: &mut [u8]) 
         Call::Cycle { clock, inputs } => {
             let o = cycle::cycle(chart, run, clock, inputs, outputs);
             let next = o.run;
-            let length = call_line(line, number, o.code, next.active, next.activity, o.taken);
+            let length = cycle_lines(line, number, chart.transitions, o);
             stepped(length, false, at + 12, next)
         }
         Call::End => {
@@ -120,7 +135,8 @@ fn print_call(chart: Chart, trace: &[u8], at: usize, run: Run, line: &mut [u8]) 
     }
 }
 
-// The next line of the run of a chart that was read with this number. A buffer of fewer than 84 bytes is refused: nothing moves.
+// The next line of the run of a chart that was read with this number, with a cycle's second line behind it. A buffer of fewer than 129 bytes
+// is refused: nothing moves.
 pub fn print_next(
     code: u8,
     chart: Chart,

@@ -22,7 +22,7 @@ abbrev μ-loop : tie.MeasureT-loop
 part-long : (out : List ℕ) (used : ℕ) → length (take (length out - used) (drop used out)) ≡ length out - used
 part-long out used = let h = length-drop used out in length-take-le _ (drop used out) (omega arith)
 
-room : (c : tie.After-print-next Inv-loop μ-loop) → 84 ≤ length (c .before .before .before .before .before .before .before .loop .out) - c .before .before .before .written .result
+room : (c : tie.After-print-next Inv-loop μ-loop) → 129 ≤ length (c .before .before .before .before .before .before .before .loop .out) - c .before .before .before .written .result
 room c = c .before .before .if2 .left
 
 fits : (c : tie.After-print-next Inv-loop μ-loop) → c .before .before .before .written .result + c .print-next .result .length ≤ length (c .before .before .before .before .before .before .before .loop .out)

@@ -25,7 +25,7 @@ use Rattle.cycle.specs.Choosing.{stepsOf}
 use Rattle.cycle.specs.Moving.{goodAt, badAt, marksOf, signalsOf}
 use Rattle.cycle.specs.Outputs.{first, drives, outputsOf}
 use Rattle.cycle.specs.Bounds.{rests, bounded}
-use Rattle.cycle.specs.Cycling.{actedOn, settled, choiceOf, marksAt, movedBy, cycled, outputsAfter}
+use Rattle.cycle.specs.Cycling.{accepted, actedOn, settled, choiceOf, reasonsIn, marksAt, movedBy, cycled, outputsAfter}
 use Rattle.cycle.specs.declared.moving.Marks.{Marks}
 use Rattle.cycle.specs.declared.cycling.Cycled.{Cycled}
 use Rattle.cycle.proofs.bounds.Laws.{rest-at}
@@ -94,6 +94,9 @@ module _ (c : Chart) (s : Sound c) where
   pub choice-bounded : (r : Run) (counts : List ℕ) (signals : ℕ) → choiceOf (bounded c) r counts signals ≡ choiceOf c r counts signals
   choice-bounded r counts signals = rw (min-eq-left (s .limits .transitions))
 
+  reasons-bounded : (r : Run) (counts : List ℕ) (signals : ℕ) → reasonsIn (bounded c) r counts signals ≡ reasonsIn c r counts signals
+  reasons-bounded r counts signals = rw (min-eq-left (s .limits .transitions))
+
   pub outputs-bounded : (activity : ℕ) → outputsOf (min (c .actions) 32) (rests 32 (c .output)) (c .value) activity ≡ outputsOf (c .actions) (c .output) (c .value) activity
   outputs-bounded activity = rw (min-eq-left (s .limits .actions)) (outputs-rests (c .actions) (c .output) (c .value) activity (s .output))
 
@@ -103,7 +106,7 @@ module _ (c : Chart) (s : Sound c) where
   moved-bounded : (r : Run) (clock : ℕ) (counts times : List ℕ) (signals : ℕ) (ch : Choice)
       → movedBy (bounded c) r clock counts times signals ch ≡ movedBy c r clock counts times signals ch
   moved-bounded r clock counts times signals ch =
-      ap₂ (λ (x : Acted) (m : Marks). settled clock (ch .taken) counts times (stepsOf (r .active) ch) x (union (r .good) (m .good)) (union (r .bad) (m .bad)))
+      ap₂ (λ (x : Acted) (m : Marks). settled clock counts times (stepsOf (r .active) ch) x (union (r .good) (m .good)) (union (r .bad) (m .bad)))
       (acted-bounded counts times (stepsOf (r .active) ch) (r .stored) (r .latched)) (marks-bounded (ch .left) signals)
 
   -- so its cycle is the same
@@ -113,5 +116,5 @@ module _ (c : Chart) (s : Sound c) where
       let counts = grownCounts (r .counters) (r .active) e in
       let times = grownTimes (r .timers) (r .latched) e in
       let signals = signalsOf inputs (r .activity) in
-      moved-bounded r clock counts times signals (choiceOf (bounded c) r counts signals)
-      ∙ ap (movedBy c r clock counts times signals) (choice-bounded r counts signals)
+      ap₂ (λ (ch : Choice) (why : List ℕ). accepted (ch .taken) why (movedBy (bounded c) r clock counts times signals ch)) (choice-bounded r counts signals) (reasons-bounded r counts signals)
+      ∙ ap (accepted (choiceOf c r counts signals .taken) (reasonsIn c r counts signals)) (moved-bounded r clock counts times signals (choiceOf c r counts signals))

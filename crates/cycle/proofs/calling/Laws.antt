@@ -1,11 +1,11 @@
 -- One call more, and what is there once one was refused.
-use Prim.Native.Nat.{ℕ, zero, suc, _+_, _<_, min}
+use Prim.Native.Nat.{ℕ, zero, suc, _+_, _≤_, _<_, min}
 use mathlib.Core.List.{List, [], _∷_}
 use mathlib.Core.Bool.{Bool, true, false, cond}
 use mathlib.Core.Path.{_≡_, refl, sym, ap, ap₂, _∙_}
 use native.Mathlib.Omega.{arith}
 use lib.IntN.{ℤ}
-use lib.ListN.{length, getD, set}
+use lib.ListN.{length, getD, set, getD-replicate}
 use lib.Dec.{eqb}
 use borrow.Author.Tests.{eq-eqb, ne-eqb, eqb-true, eqb-false}
 use Rattle.sets.specs.Loops.{turns}
@@ -15,7 +15,11 @@ use Rattle.run.specs.Apart.{runOf}
 use Rattle.run.specs.declared.apart.Words.{Words}
 use Rattle.run.specs.declared.run.Run.{Run}
 use Rattle.run.proofs.apart.Laws.{same-counts, same-times, put-together}
-use Rattle.cycle.specs.Cycling.{refused, readyCode, cycleCode, cycled, cycleOf, outputsAfter, cycleOn}
+use Rattle.choice.proofs.Laws.{reasons-most}
+use Rattle.cycle.specs.Time.{elapsed, grownCounts}
+use Rattle.cycle.specs.Moving.{signalsOf}
+use Rattle.cycle.specs.Cycling.{noReasons, refused, readyCode, cycleCode, cycled, cycleOf, outputsAfter, cycleOn}
+use Rattle.cycle.specs.Explaining.{whyIn, keptIf}
 use Rattle.cycle.specs.Calling.{Calls, noCalls, called, onward, singly, callsOn, InParts, inParts}
 use Rattle.cycle.specs.declared.cycling.Cycled.{Cycled}
 use Rattle.cycle.proofs.cycling.Laws.{stops, turned-away, passed}
@@ -125,33 +129,62 @@ module _ (c : Chart) (r : Run) (clocks inputs acts : List ℕ) (out : List ℤ) 
 
 -- ---- one call is a cycle
 
-abbrev answerIn : Calls → Cycled × List ℤ
-answerIn d = (record { code = d .code; taken = d .taken; run = d .run }, d .outputs)
+-- an accepted cycle's reasons are those of its transitions, a refused one's are 0
+pub why-kept : (c : Chart) (r : Run) (clock inputs lent : ℕ) → cycleOf c r clock inputs lent .reasons ≡ keptIf (cycleOf c r clock inputs lent .code) (whyIn c r clock inputs)
+why-kept c r clock inputs lent = go (eqb (cycleCode c r clock lent) 0) refl
+  where
+    o : Bool → Cycled
+    o b = cond b (cycled c r clock inputs) (refused (cycleCode c r clock lent) r)
 
-pub once : (c : Chart) (r : Run) (clock inputs : ℕ) (acts : List ℕ) (out : List ℤ) → length acts ≡ 1 → answerIn (callsOn c r (clock ∷ []) (inputs ∷ []) acts out) ≡ cycleOn c r clock inputs out
+    go : (b : Bool) → eqb (cycleCode c r clock lent) 0 ≡ b → o b .reasons ≡ keptIf (o b .code) (whyIn c r clock inputs)
+    go true e = refl
+    go false e = rw e
+
+pub why-most : (c : Chart) (r : Run) (clock inputs lent k : ℕ) → k < 64 → getD (cycleOf c r clock inputs lent .reasons) k 0 ≤ 6
+why-most c r clock inputs lent k l = rw (why-kept c r clock inputs lent) (go (eqb (cycleOf c r clock inputs lent .code) 0))
+  where
+    go : (b : Bool) → getD (cond b (whyIn c r clock inputs) noReasons) k 0 ≤ 6
+    go true = reasons-most (c .sources) (c .targets) (c .on) (c .off) (c .wait) (grownCounts (r .counters) (r .active) (elapsed (r .clock) clock)) (r .active) (signalsOf inputs (r .activity)) (c .transitions) k l
+    go false = let z : getD noReasons k 0 ≡ 0 = getD-replicate 64 k 0 0 l in omega arith
+
+-- with the reasons, which the calls do not make, beside it
+abbrev answerIn : List ℕ → Calls → Cycled × List ℤ
+answerIn why d = (record { code = d .code; taken = d .taken; reasons = keptIf (d .code) why; run = d .run }, d .outputs)
+
+pub once : (c : Chart) (r : Run) (clock inputs : ℕ) (acts : List ℕ) (out : List ℤ) → length acts ≡ 1
+    → answerIn (whyIn c r clock inputs) (callsOn c r (clock ∷ []) (inputs ∷ []) acts out) ≡ cycleOn c r clock inputs out
 unfolding singly turns
 once c r clock inputs acts out h = go (eqb (readyCode c r (length out)) 0) refl
   where
     o : Cycled
     o = cycleOf c r clock inputs (length out)
 
+    why : List ℕ
+    why = whyIn c r clock inputs
+
     accepted : (e : Bool) → eqb (o .code) 0 ≡ e
-        → answerIn (cond e (madeOf 0 1 (o .taken) (o .run) (set acts 0 (o .run .activity)) (outputsAfter c o out)) (madeOf (o .code) 0 (o .taken) (o .run) acts (outputsAfter c o out))) ≡ cycleOn c r clock inputs out
-    accepted true q = ap {B = Cycled × List ℤ} (λ (n : ℕ). (record { code = n; taken = o .taken; run = o .run }, outputsAfter c o out)) (sym (eqb-true (o .code) 0 q))
-    accepted false q = refl
+        → answerIn why (cond e (madeOf 0 1 (o .taken) (o .run) (set acts 0 (o .run .activity)) (outputsAfter c o out)) (madeOf (o .code) 0 (o .taken) (o .run) acts (outputsAfter c o out))) ≡ cycleOn c r clock inputs out
+    accepted true q =
+        ap₂ {C = Cycled × List ℤ} (λ (n : ℕ) (l : List ℕ). (record { code = n; taken = o .taken; reasons = l; run = o .run }, outputsAfter c o out)) (sym (eqb-true (o .code) 0 q))
+        (sym (why-kept c r clock inputs (length out) ∙ rw q))
+    accepted false q =
+        ap {B = Cycled × List ℤ} (λ (l : List ℕ). (record { code = o .code; taken = o .taken; reasons = l; run = o .run }, outputsAfter c o out)) (sym (why-kept c r clock inputs (length out)))
 
     go : (b : Bool) → eqb (readyCode c r (length out)) 0 ≡ b
-        → answerIn (cond b (singly c r (clock ∷ []) (inputs ∷ []) acts out (min 1 (length acts))) (noCalls (readyCode c r (length out)) r acts out)) ≡ cycleOn c r clock inputs out
+        → answerIn why (cond b (singly c r (clock ∷ []) (inputs ∷ []) acts out (min 1 (length acts))) (noCalls (readyCode c r (length out)) r acts out)) ≡ cycleOn c r clock inputs out
     go true q = rw h (accepted (eqb (o .code) 0) refl)
     go false q =
         let z = eqb-false _ 0 q in
-        turned-away c (cycleCode c r clock (length out)) (readyCode c r (length out)) (cycled c r clock inputs) (refused (readyCode c r (length out)) r) r out (stops _ _ z) z refl
+        turned-away c (cycleCode c r clock (length out)) (readyCode c r (length out)) (cycled c r clock inputs) _ r out (stops _ _ z) z (rw q)
 
-pub one-cycle : (c : Chart) (r : Run) (clock inputs : ℕ) (out : List ℤ) (w : Words) (counts times acts : List ℕ) (g : InParts) (next : Run)
-    → r ≡ runOf w counts times → length acts ≡ 1 → g ≡ inParts (callsOn c (runOf w counts times) (clock ∷ []) (inputs ∷ []) acts out) → next ≡ runOf (g .0 .words) (g .1) (g .2)
-    → _≡_ {A = Cycled × List ℤ} (record { code = g .0 .code; taken = g .0 .taken; run = next }, g .4) (cycleOn c r clock inputs out)
-one-cycle c r clock inputs out w counts times acts g next e h f n =
+pub one-cycle : (c : Chart) (r : Run) (clock inputs : ℕ) (out : List ℤ) (w : Words) (counts times acts reasons : List ℕ) (g : InParts) (next : Run)
+    → r ≡ runOf w counts times → length acts ≡ 1 → reasons ≡ keptIf (g .0 .code) (whyIn c (runOf w counts times) clock inputs)
+    → g ≡ inParts (callsOn c (runOf w counts times) (clock ∷ []) (inputs ∷ []) acts out) → next ≡ runOf (g .0 .words) (g .1) (g .2)
+    → _≡_ {A = Cycled × List ℤ} (record { code = g .0 .code; taken = g .0 .taken; reasons = reasons; run = next }, g .4) (cycleOn c r clock inputs out)
+one-cycle c r clock inputs out w counts times acts reasons g next e h k f n =
     let run = runOf w counts times in
-    ap₂ {C = Cycled × List ℤ} (λ (p : InParts) (x : Run). (record { code = p .0 .code; taken = p .0 .taken; run = x }, p .4)) f (put-back c run (clock ∷ []) (inputs ∷ []) acts out (parts-long w counts times) g next f n)
+    let why = whyIn c run clock inputs in
+    ap {B = Cycled × List ℤ} (λ (l : List ℕ). (record { code = g .0 .code; taken = g .0 .taken; reasons = l; run = next }, g .4)) k
+    ∙ ap₂ {C = Cycled × List ℤ} (λ (p : InParts) (x : Run). (record { code = p .0 .code; taken = p .0 .taken; reasons = keptIf (p .0 .code) why; run = x }, p .4)) f (put-back c run (clock ∷ []) (inputs ∷ []) acts out (parts-long w counts times) g next f n)
     ∙ once c run clock inputs acts out h
     ∙ ap (λ (x : Run). cycleOn c x clock inputs out) (sym e)

@@ -17,7 +17,7 @@ use Rattle.chart.specs.Held.{chartCode}
 use Rattle.chart.specs.Initial.{initialSet}
 use Rattle.chart.specs.declared.chart.Chart.{Chart}
 use Rattle.chart.proofs.held.Sound.{Sound, sound}
-use Rattle.choice.specs.Choice.{ready, ripe, takes, choosingAt, noneTaken, chosen}
+use Rattle.choice.specs.Choice.{reason, takes, choosingAt, noneTaken, chosen}
 use Rattle.choice.specs.declared.Choice.{Choice}
 use Rattle.acting.specs.Acting.{keptCount, sets, latches, wants, requestOf, asked, storedAfter, latchedAfter, acted}
 use Rattle.acting.specs.declared.Steps.{Steps}
@@ -112,7 +112,7 @@ claimed-below : (n steps : ℕ) (sources targets on off wait counts : List ℕ) 
 unfolding chosen turns
 claimed-below zero steps sources targets on off wait counts active signals h = below-zero steps
 claimed-below (suc n) steps sources targets on off wait counts active signals h =
-    go (ready (getD sources n 0) (getD targets n 0) (getD on n 0) (getD off n 0) active signals before && ripe (getD wait n 0) (getD sources n 0) counts)
+    go (eqb (reason before (getD sources n 0) (getD targets n 0) (getD on n 0) (getD off n 0) (getD wait n 0) counts active signals) 0)
     (claimed-below n steps sources targets on off wait counts active signals (λ t l. h t (omega arith)))
   where
     before : Choice

@@ -1,10 +1,10 @@
 -- From the tests and the parts of a call to its whole answer.
 use Prim.Native.Nat.{ℕ, _≤_, _<_}
-use mathlib.Core.List.{List}
+use mathlib.Core.List.{List, _++_}
 use mathlib.Core.Bool.{Bool, true, cond}
 use mathlib.Core.Path.{_≡_, refl, sym, ap, ap₂, _∙_}
 use lib.IntN.{ℤ}
-use lib.ListN.{replicate}
+use lib.ListN.{replicate, drop}
 use native.Mathlib.Omega.{arith}
 use lib.Dec.{leb, eqb}
 use borrow.Author.Tests.{leb-true, le-leb, lt-leb, eq-eqb, ne-eqb}
@@ -26,7 +26,9 @@ use Rattle.run.specs.declared.run.Run.{Run}
 use Rattle.cycle.specs.Time.{elapsed, grownCounts, grownTimes}
 use Rattle.cycle.specs.Moving.{settledCounters, settledTimers, signalsOf}
 use Rattle.cycle.specs.Choosing.{stepsOf}
-use Rattle.cycle.specs.Cycling.{refused, readyCode, lateCode, cycleCode, actedOn, started, choiceOf, marksAt, cycled, outputsAfter, answered}
+use Rattle.cycle.specs.Outputs.{outputsOf}
+use Rattle.cycle.specs.Stepping.{Moved, movedOn}
+use Rattle.cycle.specs.Cycling.{noReasons, refused, accepted, readyCode, lateCode, cycleCode, actedOn, started, choiceOf, marksAt, cycled, outputsAfter, answered}
 use Rattle.cycle.specs.declared.moving.Marks.{Marks}
 use Rattle.cycle.specs.declared.cycling.Cycled.{Cycled}
 
@@ -109,11 +111,7 @@ pub started-as : (c : Chart) (clock i : ℕ) (x : Acted) (cs : List StepCounter)
     → x ≡ actedOn c (replicate 64 0) (replicate 32 0) (record { active = i; entered = i; left = 0; kept = 0 }) 0 0
     → cs ≡ settledCounters (replicate 64 0) 0
     → ts ≡ settledTimers (replicate 32 0) (x .latched)
-    → record {
-      code = 0;
-      taken = 0;
-      run = record { clock = clock; active = i; activity = x .activity; stored = x .stored; latched = x .latched; counters = cs; timers = ts; good = 0; bad = 0 };
-    }
+    → accepted 0 noReasons (record { clock = clock; active = i; activity = x .activity; stored = x .stored; latched = x .latched; counters = cs; timers = ts; good = 0; bad = 0 })
     ≡ started c clock
 started-as c clock i x cs ts e f g h = rw (h, g, f, e)
 
@@ -133,10 +131,9 @@ pub cycled-as : (c : Chart) (r : Run) (clock inputs e : ℕ) (counts times : Lis
     → ts ≡ settledTimers times (x .latched)
     → good ≡ union (r .good) (m .good)
     → bad ≡ union (r .bad) (m .bad)
-    → record {
-      code = 0;
-      taken = ch .taken;
-      run = record {
+    → _≡_ {A = ℕ × Run} (
+      ch .taken,
+      record {
         clock = clock;
         active = st .active;
         activity = x .activity;
@@ -146,8 +143,15 @@ pub cycled-as : (c : Chart) (r : Run) (clock inputs e : ℕ) (counts times : Lis
         timers = ts;
         good = good;
         bad = bad;
-      };
-    }
-    ≡ cycled c r clock inputs
+      },
+    )
+    (cycled c r clock inputs .taken, cycled c r clock inputs .run)
 cycled-as c r clock inputs e counts times signals ch st m x cs ts good bad e₁ e₂ e₃ e₄ e₅ e₆ e₇ e₈ e₉ f₁ f₂ f₃ =
     rw (f₃, f₂, f₁, e₉, e₈, e₇, e₆, e₅, e₄, e₃, e₂, e₁)
+
+-- and the outputs with them
+pub moved-as : (c : Chart) (r : Run) (clock inputs taken : ℕ) (run : Run) (out after : List ℤ) → _≡_ {A = ℕ × Run} (taken, run) (cycled c r clock inputs .taken, cycled c r clock inputs .run)
+    → after ≡ outputsOf (c .actions) (c .output) (c .value) (run .activity) ++ drop 32 out → _≡_ {A = Moved} (taken, run, after) (movedOn c r clock inputs out)
+moved-as c r clock inputs taken run out after e f =
+    ap {B = Moved} (λ (l : List ℤ). (taken, run, l)) f
+    ∙ ap {B = Moved} (λ (p : ℕ × Run). (p .0, p .1, outputsOf (c .actions) (c .output) (c .value) (p .1 .activity) ++ drop 32 out)) e

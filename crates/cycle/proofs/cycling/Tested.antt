@@ -2,8 +2,7 @@
 use Prim.Native.Nat.{ℕ, _≤_, _<_}
 use mathlib.Core.List.{List, _++_}
 use mathlib.Core.Bool.{Bool, true, false, cond}
-use mathlib.Core.Path.{_≡_, refl, _∙_}
-use native.Mathlib.Omega.{arith}
+use mathlib.Core.Path.{_≡_, refl, ap, _∙_}
 use native.Mathlib.Omega.{arith}
 use lib.IntN.{ℤ}
 use lib.ListN.{length, drop, length-append, length-drop}
@@ -14,21 +13,25 @@ use Rattle.run.specs.declared.run.Run.{Run}
 use Rattle.cycle.specs.Outputs.{outputsOf}
 use Rattle.cycle.specs.Bounds.{bounded}
 use Rattle.cycle.specs.Time.{elapsed}
-use Rattle.cycle.specs.Cycling.{refused, readyCode, cycleCode, cycled, cycleOf, movedOn, cycleOn, outputsAfter}
+use Rattle.cycle.specs.Cycling.{refused, accepted, readyCode, cycleCode, cycled, cycleOf, cycleOn, outputsAfter}
+use Rattle.cycle.specs.Stepping.{Moved, movedOn}
+use Rattle.cycle.specs.Explaining.{whyIn}
 use Rattle.cycle.specs.declared.cycling.Cycled.{Cycled}
 use Rattle.cycle.proofs.outputs.Laws.{outputs-length}
 use Rattle.cycle.proofs.bounds.Sound.{cycled-bounded, after-bounded}
 use Rattle.cycle.proofs.cycling.Kept.{cycle-belongs}
 use Rattle.cycle.proofs.cycling.Laws.{goes-on, too-late, in-time, accepted-by, turned-away, together, passed, is-ready}
 
--- in time it is paragraphs 1 to 6 of what a cycle takes of the chart
-pub moves-on : (c : Chart) (r : Run) (clock inputs : ℕ) (out : List ℤ) → readyCode c r (length out) ≡ 0 → elapsed (r .clock) clock ≤ 60000
-    → movedOn (bounded c) r clock inputs out ≡ cycleOn c r clock inputs out
-moves-on c r clock inputs out e l =
+-- in time it is paragraphs 1 to 6 of what a cycle takes of the chart, and the reasons with them
+pub moves-on : (c : Chart) (r : Run) (clock inputs : ℕ) (out : List ℤ) (taken : ℕ) (run : Run) (after : List ℤ) → readyCode c r (length out) ≡ 0 → elapsed (r .clock) clock ≤ 60000
+    → _≡_ {A = Moved} (taken, run, after) (movedOn (bounded c) r clock inputs out) → _≡_ {A = Cycled × List ℤ} (accepted taken (whyIn c r clock inputs) run, after) (cycleOn c r clock inputs out)
+moves-on c r clock inputs out taken run after e l h =
     let s = sound c (passed c r (length out) e .chart) in
     let o = cycled (bounded c) r clock inputs in
-    together c (cycleOf c r clock inputs (length out)) o out (outputsAfter (bounded c) o out)
-    (accepted-by (cycleCode c r clock (length out)) (cycled c r clock inputs) _ o (in-time _ l ∙ goes-on _ _ e) (cycled-bounded c s r clock inputs)) (after-bounded c s o out)
+    let why = whyIn c r clock inputs in
+    ap {B = Cycled × List ℤ} (λ (p : Moved). (accepted (p .0) why (p .1), p .2)) h
+    ∙ together c (cycleOf c r clock inputs (length out)) (accepted (o .taken) why (o .run)) out (outputsAfter (bounded c) o out)
+    (accepted-by (cycleCode c r clock (length out)) (cycled c r clock inputs) _ _ (in-time _ l ∙ goes-on _ _ e) (ap (λ (x : Cycled). accepted (x .taken) why (x .run)) (cycled-bounded c s r clock inputs))) (after-bounded c s o out)
 
 -- too late: all stays as it is
 pub comes-late : (c : Chart) (r : Run) (clock inputs : ℕ) (out : List ℤ) → readyCode c r (length out) ≡ 0 → 60000 < elapsed (r .clock) clock

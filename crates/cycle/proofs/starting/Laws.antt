@@ -9,7 +9,7 @@ use Rattle.chart.specs.declared.chart.Chart.{Chart}
 use Rattle.run.specs.Run.{noRun, counter, timer}
 use Rattle.run.specs.Apart.{runOf, countersOf, timersOf}
 use Rattle.run.specs.declared.run.Run.{Run}
-use Rattle.cycle.specs.Cycling.{refused, startOf, outputsAfter}
+use Rattle.cycle.specs.Cycling.{noReasons, refused, startOf, outputsAfter}
 use Rattle.cycle.specs.Starting.{begun, notBegun, startOn}
 use Rattle.cycle.specs.declared.cycling.Cycled.{Cycled}
 use Rattle.cycle.specs.declared.starting.Started.{Started}
@@ -25,7 +25,7 @@ pub not-begun : (s : Started) (n : ℕ) → s ≡ notBegun n → begun s ≡ ref
 not-begun s n e = rw (e, ← no-counters, ← no-timers)
 
 abbrev startedBy : Started → Run → Cycled
-startedBy s run = record { code = s .code; taken = 0; run = run }
+startedBy s run = record { code = s .code; taken = 0; reasons = noReasons; run = run }
 
 pub whole : (c : Chart) (clock : ℕ) (out after : List ℤ) (s : Started) (run : Run) → _≡_ {A = Cycled × List ℤ} (begun s, after) (startOn c clock out)
     → run ≡ runOf (s .words) (replicate 64 0) (replicate 32 0) → (startedBy s run ≡ startOf c clock (length out)) × (after ≡ outputsAfter c (startedBy s run) out)

@@ -10,7 +10,8 @@ use Rattle.run.specs.Apart.{wordsOf, countsOf, timesOf}
 use Rattle.run.specs.declared.apart.Words.{Words}
 use Rattle.run.specs.declared.run.Run.{Run}
 use Rattle.run.proofs.apart.Laws.{same-counts, same-times}
-use Rattle.cycle.specs.Cycling.{cycleOf, cycleOn, outputsAfter}
+use Rattle.cycle.specs.Cycling.{noReasons, cycleOf, cycleOn, outputsAfter}
+use Rattle.cycle.specs.Explaining.{whyIn, keptIf}
 use Rattle.cycle.specs.Starting.{begun, startOn}
 use Rattle.cycle.specs.Calling.{callsOn, InParts, inParts}
 use Rattle.cycle.specs.declared.cycling.Cycled.{Cycled}
@@ -23,19 +24,19 @@ use Rattle.engine.specs.Lent.{Left, left, ShiftLeft, shiftLeft}
 
 -- a start's counters and timers are 0
 pub start-left : (c : Chart) (clock : ℕ) (out after : List ℤ) (s : Started) (w : Words) → _≡_ {A = Cycled × List ℤ} (begun s, after) (startOn c clock out) → w ≡ s .words
-    → _≡_ {A = Left} (s .code, 0, (w, replicate 64 0, replicate 32 0), after) (left (startOn c clock out))
+    → _≡_ {A = Left} (s .code, 0, noReasons, (w, replicate 64 0, replicate 32 0), after) (left (startOn c clock out))
 start-left c clock out after s w e f =
-    ap {B = Left} (λ (x : Words). (s .code, 0, (x, replicate 64 0, replicate 32 0), after)) f
-    ∙ ap₂ {C = Left} (λ (cs ts : List ℕ). (s .code, 0, (s .words, cs, ts), after)) (same-counts (replicate 64 0) refl) (same-times (replicate 32 0) refl)
+    ap {B = Left} (λ (x : Words). (s .code, 0, noReasons, (x, replicate 64 0, replicate 32 0), after)) f
+    ∙ ap₂ {C = Left} (λ (cs ts : List ℕ). (s .code, 0, noReasons, (s .words, cs, ts), after)) (same-counts (replicate 64 0) refl) (same-times (replicate 32 0) refl)
     ∙ ap left e
 
--- a cycle is a list of one
-pub cycle-left : (c : Chart) (r : Run) (clock inputs : ℕ) (acts : List ℕ) (out : List ℤ) (g : InParts) (w : Words) → length acts ≡ 1
+-- a cycle is a list of one, with the reasons beside it
+pub cycle-left : (c : Chart) (r : Run) (clock inputs : ℕ) (acts reasons : List ℕ) (out : List ℤ) (g : InParts) (w : Words) → length acts ≡ 1 → reasons ≡ keptIf (g .0 .code) (whyIn c r clock inputs)
     → g ≡ inParts (callsOn c r (clock ∷ []) (inputs ∷ []) acts out) → w ≡ g .0 .words
-    → _≡_ {A = Left} (g .0 .code, g .0 .taken, (w, g .1, g .2), g .4) (left (cycleOn c r clock inputs out))
-cycle-left c r clock inputs acts out g w l e f =
-    ap {B = Left} (λ (x : Words). (g .0 .code, g .0 .taken, (x, g .1, g .2), g .4)) f
-    ∙ ap {B = Left} (λ (p : InParts). (p .0 .code, p .0 .taken, (p .0 .words, p .1, p .2), p .4)) e
+    → _≡_ {A = Left} (g .0 .code, g .0 .taken, reasons, (w, g .1, g .2), g .4) (left (cycleOn c r clock inputs out))
+cycle-left c r clock inputs acts reasons out g w l h e f =
+    ap₂ {C = Left} (λ (y : List ℕ) (x : Words). (g .0 .code, g .0 .taken, y, (x, g .1, g .2), g .4)) h f
+    ∙ ap {B = Left} (λ (p : InParts). (p .0 .code, p .0 .taken, keptIf (p .0 .code) (whyIn c r clock inputs), (p .0 .words, p .1, p .2), p .4)) e
     ∙ ap left (once c r clock inputs acts out l)
 
 -- a shift is the calls that are made, and then 18
@@ -50,6 +51,6 @@ shift-left c r clocks inputs acts out g w code e f h =
 -- the cycle by value, taken apart
 pub value-left : (c : Chart) (r given : Run) (clock inputs : ℕ) (out after : List ℤ) (o : Cycled) (w : Words) (counts times : List ℕ) → given ≡ r
     → (o ≡ cycleOf c given clock inputs (length out)) × (after ≡ outputsAfter c o out) → w ≡ wordsOf (o .run) → counts ≡ countsOf (o .run .counters) → times ≡ timesOf (o .run .timers)
-    → _≡_ {A = Left} (o .code, o .taken, (w, counts, times), after) (left (cycleOn c r clock inputs out))
+    → _≡_ {A = Left} (o .code, o .taken, o .reasons, (w, counts, times), after) (left (cycleOn c r clock inputs out))
 value-left c r given clock inputs out after o w counts times q e f g h =
     rw (f, g, h) (ap left (together c (cycleOf c given clock inputs (length out)) o out after (e .0) (e .1)) ∙ ap (λ (x : Run). left (cycleOn c x clock inputs out)) q)

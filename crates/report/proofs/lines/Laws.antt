@@ -1,4 +1,4 @@
--- The digits of the numbers in hex and in decimal, and how many there are.
+-- The digits of the numbers in hex and in decimal, and how many there are; the digits of reasons.
 use Prim.Native.Nat.{ℕ, zero, suc, _+_, _-_, _/_, _%_, _^_, _≤_, _<_}
 use mathlib.Core.List.{List, [], _∷_, _++_}
 use mathlib.Core.Bool.{Bool, true, false, cond}
@@ -6,9 +6,13 @@ use mathlib.Core.Path.{_≡_, refl, sym, ap, _∙_}
 use native.Mathlib.Nat.{pow-suc, div-lt-iff-lt-mul}
 use native.Mathlib.Omega.{arith}
 use lib.Dec.{ltb}
-use lib.ListN.{length, length-append}
+use lib.ListN.{length, getD, take, set, length-append}
 use borrow.Author.Tests.{lt-ltb, le-ltb}
-use Rattle.report.specs.Lines.{digit, hex, decimalFrom, decimal}
+use Rattle.sets.specs.Bytes.{Put}
+use Rattle.sets.specs.Loops.{table}
+use Rattle.sets.proofs.Bytes.{put-put, put-turn, put-all}
+use Rattle.sets.proofs.Loops.{length-table, getD-table}
+use Rattle.report.specs.Lines.{text, digit, hex, decimalFrom, decimal, reasonsLine}
 
 -- ---- numbers in hex
 
@@ -64,3 +68,33 @@ tenth-short n h = rw (tenth n h) (decimal-short 19 (n / 10))
 -- a 64-bit number of two digits or more is its tenth in decimal, and then its last digit
 pub decimal-last : (n : ℕ) → 10 ≤ n → n < 2 ^ 64 → decimal n ≡ decimal (n / 10) ++ (digit (n % 10) ∷ [])
 decimal-last n h k = decimal-more 19 n h ∙ ap (λ (x : List ℕ). x ++ (digit (n % 10) ∷ [])) (sym (tenth n k))
+
+-- ---- the digits of reasons, one after the other
+
+abbrev pub reasonDigits : ℕ → List ℕ → List ℕ
+reasonDigits n reasons = table (λ t. digit (getD reasons t 0)) n
+
+digits-long : (n : ℕ) (reasons : List ℕ) → length (reasonDigits n reasons) ≡ n
+digits-long n reasons = length-table (λ t. digit (getD reasons t 0)) n
+
+pub reasons-length : (n : ℕ) (reasons : List ℕ) → length (reasonsLine n reasons) ≡ n + 1
+unfolding reasonsLine
+reasons-length n reasons = omega (arith, length-append (reasonDigits n reasons) (text "\n"), digits-long n reasons)
+
+-- so many are written
+abbrev pub Digits : List ℕ → ℕ → ℕ → List ℕ → ℕ → List ℕ → Type 0
+Digits e at n reasons t l = Put e at (take t (reasonDigits n reasons)) l (at + t)
+
+module _ (e : List ℕ) (at n : ℕ) (reasons : List ℕ) (room : at + (n + 1) ≤ length e) where
+  -- one more
+  pub digits-turn : (t d : ℕ) (l : List ℕ) → Digits e at n reasons t l → t < n → d ≡ digit (getD reasons t 0) → Digits e at n reasons (t + 1) (set l (at + t) d)
+  digits-turn t d l p h q =
+      let m = digits-long n reasons in
+      rw (q ∙ sym (getD-table (λ t. digit (getD reasons t 0)) n t 0 h)) (put-turn e at (reasonDigits n reasons) l t p (omega arith) (omega arith))
+
+  -- all, and the line end behind them
+  pub digits-end : (t r : ℕ) (l f : List ℕ) → Digits e at n reasons t l → t ≡ n → Put l (at + n) (text "\n") f r → Put e at (reasonsLine n reasons) f r
+  unfolding reasonsLine
+  digits-end t r l f p h q =
+      let m = digits-long n reasons in
+      put-put e at (reasonDigits n reasons) (text "\n") (put-all e at (reasonDigits n reasons) l t p (omega arith)) (rw m q) (omega arith)

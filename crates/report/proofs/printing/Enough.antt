@@ -21,7 +21,7 @@ use Rattle.trace.specs.declared.tracing.Call.{Call}
 use Rattle.trace.specs.declared.tracing.Call.the-variants.{Start, Cycle, End, Refused}
 use Rattle.trace.proofs.tracing.Laws.{due, after-start, after-cycle}
 use Rattle.report.specs.Lines.{chartLine}
-use Rattle.report.specs.Printing.{lineOf, printedAt, printedFrom, printedRun}
+use Rattle.report.specs.Printing.{lineOf, cycleLines, printedAt, printedFrom, printedRun}
 use Rattle.report.proofs.printing.Laws.{one-printed}
 
 -- a number that lies in the front is read from there
@@ -72,7 +72,7 @@ module _ (s : List ℕ) (long : 65536 < length s) where
     one-same f g n at run (Cycle clock inputs) d e l m h on =
         let a = after-cycle front n at f clock inputs h l d in
         let b = after-cycle s n at g clock inputs h m e in
-        ap (λ (t : List ℕ). lineOf n (cycleOf c run clock inputs 32) ++ t) (on (n + 1) (at + 12) (cycleOf c run clock inputs 32 .run) (a .fewer) (b .fewer) (a .place) (a .early))
+        ap (λ (t : List ℕ). cycleLines c n (cycleOf c run clock inputs 32) ++ t) (on (n + 1) (at + 12) (cycleOf c run clock inputs 32 .run) (a .fewer) (b .fewer) (a .place) (a .early))
     one-same f g n at run End d e l m h on = refl
     one-same f g n at run Refused d e l m h on = refl
 

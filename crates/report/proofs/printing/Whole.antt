@@ -24,7 +24,7 @@ use Rattle.trace.specs.declared.tracing.Call.the-variants.{Start, Cycle, End, R
 use Rattle.trace.proofs.tracing.Laws.{after-start, after-cycle}
 use Rattle.tally.specs.Tallying.{tallyOf}
 use Rattle.report.specs.Lines.{chartLine, traceLine, tallyLine}
-use Rattle.report.specs.Printing.{lineOf, closingLine, printedAt, printedFrom, printedRun, numberAt, opening, lineFor, standingFor, nextLine, nextStanding, standingAfter, linesOf}
+use Rattle.report.specs.Printing.{lineOf, cycleLines, closingLine, printedAt, printedFrom, printedRun, numberAt, opening, lineFor, standingFor, nextLine, nextStanding, standingAfter, linesOf}
 use Rattle.report.specs.declared.printing.Standing.{Standing}
 use Rattle.report.proofs.printing.Laws.{one-printed}
 
@@ -113,9 +113,9 @@ module _ (c : Chart) (s : List ℕ) (passes : chartCode c ≡ 0) where
   abbrev Follows : ℕ → ℕ → Type 0
   Follows k more = (n at : ℕ) (run : Run) → length s - at < more → at ≡ 12 * n - 4 → belongs c run ≡ true → Prints k more n at run
 
-  call-prints : (more k n at at' : ℕ) (run : Run) (o : Cycled) (x : Call) → callAt s at ≡ x → lineFor c at run x ≡ lineOf (numberAt at) o → standingFor c at run x ≡ standing false at' (o .run)
-      → printedAt c n at run x (printedFrom more c s (n + 1)) ≡ lineOf n o ++ printedFrom more c s (n + 1) at' (o .run) → numberAt at ≡ n → Prints k more (n + 1) at' (o .run) → Prints (suc k) (suc more) n at run
-  call-prints more k n at at' run o x e line then all num p = record {
+  call-prints : (more k n at at' : ℕ) (run : Run) (o : Cycled) (printed : ℕ → List ℕ) (x : Call) → callAt s at ≡ x → lineFor c at run x ≡ printed (numberAt at) → standingFor c at run x ≡ standing false at' (o .run)
+      → printedAt c n at run x (printedFrom more c s (n + 1)) ≡ printed n ++ printedFrom more c s (n + 1) at' (o .run) → numberAt at ≡ n → Prints k more (n + 1) at' (o .run) → Prints (suc k) (suc more) n at run
+  call-prints more k n at at' run o printed x e line then all num p = record {
     lines = one-line k at run x e ∙ rw (line, then, num, p .lines) (sym (one-printed more c s n at run x e ∙ all));
     ends = ap (λ (st : Standing). st .done) (one-after k at run x e) ∙ rw then (p .ends);
   }
@@ -130,10 +130,10 @@ module _ (c : Chart) (s : List ℕ) (passes : chartCode c ≡ 0) where
   step : (more k n at : ℕ) (run : Run) (x : Call) → callAt s at ≡ x → length s - at < suc more → at ≡ 12 * n - 4 → belongs c run ≡ true → Follows k more → Prints (suc k) (suc more) n at run
   step more k n at run (Start clock) e l h b on =
       let o = after-start s n at more clock h l e in
-      call-prints more k n at (at + 8) run (startOf c clock 32) (Start clock) e refl refl refl (numbered n at h) (on (n + 1) (at + 8) (startOf c clock 32 .run) (o .fewer) (o .place) (start-fits clock))
+      call-prints more k n at (at + 8) run (startOf c clock 32) (λ m. lineOf m (startOf c clock 32)) (Start clock) e refl refl refl (numbered n at h) (on (n + 1) (at + 8) (startOf c clock 32 .run) (o .fewer) (o .place) (start-fits clock))
   step more k n at run (Cycle clock inputs) e l h b on =
       let o = after-cycle s n at more clock inputs h l e in
-      call-prints more k n at (at + 12) run (cycleOf c run clock inputs 32) (Cycle clock inputs) e refl refl refl (numbered n at h) (on (n + 1) (at + 12) (cycleOf c run clock inputs 32 .run) (o .fewer) (o .place) (cycle-keeps c run clock inputs 32 b))
+      call-prints more k n at (at + 12) run (cycleOf c run clock inputs 32) (λ m. cycleLines c m (cycleOf c run clock inputs 32)) (Cycle clock inputs) e refl refl refl (numbered n at h) (on (n + 1) (at + 12) (cycleOf c run clock inputs 32 .run) (o .fewer) (o .place) (cycle-keeps c run clock inputs 32 b))
   step more k n at run End e l h b on = last-prints more k n at run _ End e (tally-line (numberAt at) run b) refl refl
   step more k n at run Refused e l h b on = last-prints more k n at run traceLine Refused e refl refl refl
 

@@ -146,7 +146,7 @@ loop-again c =
     let a = s .args in
     let run = runOf (l .loop .words) (l .loop .counts) (l .loop .times) in
     let o = call .step .ensures in
-    let single = o .0 ∙ moves-on (chart s) run _ _ (l .loop .outputs) (l .loop .inv .1) (rw (timing .elapsed .ensures) at (call .before .before .before .before .before .if2 .left)) in
+    let single = moves-on (chart s) run _ _ (l .loop .outputs) _ _ _ (l .loop .inv .1) (rw (timing .elapsed .ensures) at (call .before .before .before .before .before .if2 .left)) (o .0) in
     let next = one-accepted (chart s) (given s) (now (a .clocks)) (now (a .inputs)) (now (a .activities)) (now (a .outputs)) (l .loop .k) (l .loop .taken) run (l .loop .activities) (l .loop .outputs) _ _ (l .loop .inv .0) single (l .loop .inv .1) refl in
     (next .0, next .1, omega (arith, timing .before .before .loop-test .taken), length-set (l .loop .activities) _ _ ∙ l .loop .inv .3, next .2 ∙ l .loop .inv .4, o .1, o .2)
 

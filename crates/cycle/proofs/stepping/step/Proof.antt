@@ -9,8 +9,7 @@ use Rattle.run.specs.Apart.{countersOf, timersOf, runOf}
 use Rattle.run.specs.declared.run.Run.{Run}
 use Rattle.cycle.specs.Bounds.{bounded}
 use Rattle.chart.specs.Chart.{chartOf}
-use Rattle.cycle.specs.Cycling.{cycled}
-use Rattle.cycle.proofs.cycling.Laws.{cycled-as, together}
+use Rattle.cycle.proofs.cycling.Laws.{cycled-as, moved-as}
 use Rattle.cycle.proofs.stepping.Laws.{within, counts-now, times-now, settled-counts, settled-times, acted-now}
 use borrow.Author.Needs.{needs}
 use Rattle.cycle.proofs.stepping.step.Statement.{statement}
@@ -93,7 +92,7 @@ returns c =
     let older = times .grow-times .ensures in
     let counted = counts-now (a .words .active) (st .kept) _ _ (countersOf (now (a .counts))) _ _ grown (clearing .before .without .ensures) (clearing .clear .ensures) in
     let timed = times-now (a .words .latched) (acting .settle .result .latched) _ _ (timersOf (now (a .times))) _ _ older (freeing .before .before .without2 .ensures) (freeing .clear2 .ensures) in (
-      together (bounded (chart s)) (cycled (bounded (chart s)) (run s) (a .clock) (a .inputs)) _ (now (a .outputs)) _
+      moved-as (bounded (chart s)) (run s) (a .clock) (a .inputs) _ _ (now (a .outputs)) _
           (cycled-as (bounded (chart s)) (run s) (a .clock) (a .inputs) _ _ _ _ (choosing .choose .result) st (marking .marks-of .result) (acting .settle .result) _ _ _ _
           (timing .elapsed .ensures) grown older (sensing .signals-of .ensures) (choosing .choose .ensures) (moving .steps-of .ensures) (marking .marks-of .ensures)
           (x .0 ∙ acted-now (chart s) _ _ _ st (a .words .stored) (a .words .latched) counted) (settled-counts (st .kept) (clearing .clear .last .0) (counts .grow-counts .last .0) counted) (settled-times (acting .settle .result .latched) (freeing .clear2 .last .0) (times .grow-times .last .0) timed)

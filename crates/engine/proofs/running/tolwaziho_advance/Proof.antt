@@ -45,7 +45,7 @@ same-length c = search needs
 returns : tie.Need-returns
 returns c =
     let put = c .before .before in
-    let words = put .before .before .before .before .before .before .before .before .before .before in
+    let words = put .before .before .before .before .before .before .before .before .before .before .before in
     let cycling = words .before .before .before in
     let running = cycling .before .before in
     let s = running .before .before .before .before .before .before .before .before .before .before .before .before .before .before .before .before .before .before .before .before .before .before .before .before .before in

@@ -1,11 +1,12 @@
--- A list of one where the run lies, its words stored one by one.
+-- The reasons, then a list of one where the run lies, its words stored one by one.
 use denote.Ref.{now}
 use Rattle.chart.specs.Chart.{chartOf}
 use Rattle.chart.specs.declared.chart.Chart.{Chart}
 use Rattle.run.specs.Apart.{runOf}
 use Rattle.run.specs.declared.run.Run.{Run}
 use Rattle.engine.specs.Lent.{wordsAt}
-use mathlib.Core.Path.{refl}
+use mathlib.Core.Path.{refl, ap, _∙_}
+use Rattle.cycle.specs.Explaining.{keptIf}
 use Rattle.engine.proofs.running.Laws.{cycle-left}
 use borrow.Author.Needs.{needs}
 use Rattle.engine.proofs.running.tolwaziho_cycle.Statement.{statement}
@@ -21,6 +22,9 @@ run s =
     let a = s .args in
     runOf (wordsAt (now (a .clock)) (now (a .active)) (now (a .activity)) (now (a .stored)) (now (a .latched)) (now (a .good)) (now (a .bad))) (now (a .counters)) (now (a .timers))
 
+explain-requires : tie.Need-explain-requires
+explain-requires c κs = search needs
+
 slice-aggregate-cycles-on : tie.Need-slice-aggregate-cycles-on
 slice-aggregate-cycles-on c = search needs
 
@@ -33,6 +37,9 @@ slice-aggregate-cycles-on-3 c = search needs
 cycles-on-requires : tie.Need-cycles-on-requires
 cycles-on-requires c κs = search needs
 
+keep-if-requires : tie.Need-keep-if-requires
+keep-if-requires c κs = search needs
+
 put-words-requires : tie.Need-put-words-requires
 put-words-requires c κs = search needs
 
@@ -41,18 +48,23 @@ same-length c = search needs
 
 returns : tie.Need-returns
 returns c =
-    let calling = c .before .before .before .before .before .before .before .before .before .before in
-    let s = calling .before .before .before .before .before .before .before .before .before .before .before .before .before .before in
-    cycle-left (chart s) (run s) (s .args .new) (s .args .inputs) _ (now (s .args .outputs)) _ _ refl (calling .cycles-on .ensures) (c .put-words .ensures)
+    let keeping = c .before .before .before .before .before .before .before .before in
+    let calling = keeping .before .before .before .before in
+    let explaining = calling .before .before .before .before .before .before .before in
+    let s = explaining .before .before .before .before .before .before .before .before .before .before in
+    cycle-left (chart s) (run s) (s .args .new) (s .args .inputs) _ _ (now (s .args .outputs)) _ _ refl
+    (keeping .keep-if .ensures ∙ ap (keptIf (calling .cycles-on .result .code)) (explaining .explain .ensures)) (calling .cycles-on .ensures) (c .put-words .ensures)
 
 pub tolwaziho-cycle-spec : {M : Type 1} → statement M
 tolwaziho-cycle-spec =
     tie.close
     (tie.spec
+    explain-requires
     slice-aggregate-cycles-on
     slice-aggregate-cycles-on-2
     slice-aggregate-cycles-on-3
     cycles-on-requires
+    keep-if-requires
     put-words-requires
     same-length
     returns)

@@ -69,17 +69,12 @@ use Rattle.lent.proofs.advancing.lent_cycle.Code as code
 abbrev stayed : Stays (lent-cycle.ended .signature .params) (lent-cycle.ended .kept)
 stayed = (stay-none (λ _. G.the-row) yes, (stay-none (λ _. T.the-row) yes, (stay-none (λ _. u32) yes, (stay-none (λ _. u32) yes, (gave-slice (0 ∷ []) tt (plain (λ _. i32)), tt)))))
 
--- what is known of the parts of what `advance` answers
-known-code : (r : Advanced) (u : Val) → Is D.the-row r (u ∷ []) → r .code < 2 ^ 8
-known-code r u g = LL.owed D.the-type D′.the-laws r _ g .0 .1
-
-known-taken : (r : Advanced) (u : Val) → Is D.the-row r (u ∷ []) → r .taken < 2 ^ 64
-known-taken r u g = LL.owed D.the-type D′.the-laws r _ g .1 .0 .1
-
--- what is returned is of its type
+-- what is returned is of its type: the parts of what `advance` answers are, and the run is
 cycled-is : (r : Advanced) (u : Val) (k : Run) → Is D.the-row r (u ∷ []) → Is T.the-row k (runVal k ∷ [])
     → Is K.the-row (asCycled r k) (LL.vals K.the-type K′.the-laws (asCycled r k))
-cycled-is r u k g was = LL.owes K.the-type K′.the-laws (asCycled r k) ((refl, known-code r u g), ((refl, known-taken r u g), (was, tt)))
+cycled-is r u k g was =
+    let o = LL.owed D.the-type D′.the-laws r _ g in
+    LL.owes K.the-type K′.the-laws (asCycled r k) (o .0, (o .1 .0, (o .1 .1 .0, (was, tt))))
 
 -- the contract that the proof cites
 abbrev Advance : {M : Type 1} (𝓤 : URA M) (H : Heap 𝓤) (A : Atoms 𝓤) (mem : Memory → SProp 𝓤) (run : Routine → Fun 𝓤) → Contract 𝓤
@@ -216,7 +211,8 @@ module _ {M : Type 1} (𝓤 : URA M) (H : Heap 𝓤) (A : Atoms 𝓤) (W : Given
         (init ! 4 refl (LL.lawful T.the-type T′.the-laws 𝓤 H A W .typed (zs .1 .0) _ was .0)) $
         assigns ! (agg ! (and-then ! (load ! (from ! (fld ! refl (stop !))) (look-in ! 12 (sub ! 0 refl (whole !))))
         (and-then ! (load ! (from ! (fld ! refl (stop !))) (look-in ! 12 (sub ! 1 refl (whole !))))
-        (and-then ! (load ! (from ! (stop !)) (look ! 4 refl)) (no-more !))))) (from ! (stop !))
+        (and-then ! (load ! (from ! (fld ! refl (stop !))) (look-in ! 12 (sub ! 2 refl (whole !))))
+        (and-then ! (load ! (from ! (stop !)) (look ! 4 refl)) (no-more !)))))) (from ! (stop !))
         (init ! 25 refl (LL.lawful K.the-type K′.the-laws 𝓤 H A W .typed (asCycled r (zs .1 .0)) _ (cycled-is r u (zs .1 .0) is was) .0)) $
         returns ! (look ! 25 refl) $ forget ! 0 refl $ forget ! 4 refl $ forget ! 6 refl $ forget ! 8 refl $ forget ! 10 refl $ forget ! 12 refl $
         forget ! 15 refl $ forget ! 17 refl $ forget ! 19 refl $ forget ! 21 refl $ forget ! 23 refl $ forget ! 25 refl $

@@ -12,16 +12,16 @@ use Rattle.report.proofs.lines.accepted_line.Statement.{statement}
 use Rattle.report.proofs.lines.accepted_line.Tie as tie
 
 -- where the number and each word end
-number : (c : tie.After-put-decimal) → (c .put-decimal .result ≤ 20) × (84 ≤ length (c .put-decimal .last .0))
+number : (c : tie.After-put-decimal) → (c .put-decimal .result ≤ 20) × (129 ≤ length (c .put-decimal .last .0))
 number c = omega (arith, c .put-decimal .ensures .1, c .put-decimal .kept .0, decimal-short 20 (c .before .before .before .args .number), c .before .before .before .pre)
 
-first : (c : tie.After-put-word) → (c .put-word .result ≤ 37) × (84 ≤ length (c .put-word .last .0))
+first : (c : tie.After-put-word) → (c .put-word .result ≤ 37) × (129 ≤ length (c .put-word .last .0))
 first c = omega (arith, c .put-word .ensures .1, c .put-word .kept .0, hex-length 16 (c .before .before .before .before .before .before .before .args .active), number (c .before .before .before .before))
 
-second : (c : tie.After-put-word2) → (c .put-word2 .result ≤ 46) × (84 ≤ length (c .put-word2 .last .0))
+second : (c : tie.After-put-word2) → (c .put-word2 .result ≤ 46) × (129 ≤ length (c .put-word2 .last .0))
 second c = omega (arith, c .put-word2 .ensures .1, c .put-word2 .kept .0, hex-length 8 (c .before .before .before .before .before .before .before .before .before .before .before .args .activity), first (c .before .before .before .before))
 
-third : (c : tie.After-put-word3) → (c .put-word3 .result ≤ 63) × (84 ≤ length (c .put-word3 .last .0))
+third : (c : tie.After-put-word3) → (c .put-word3 .result ≤ 63) × (129 ≤ length (c .put-word3 .last .0))
 third c = omega (arith, c .put-word3 .ensures .1, c .put-word3 .kept .0, hex-length 16 (c .before .before .before .before .before .before .before .before .before .before .before .before .before .before .before .args .taken), second (c .before .before .before .before))
 
 put-decimal-requires : tie.Need-put-decimal-requires

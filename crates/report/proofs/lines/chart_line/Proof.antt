@@ -12,7 +12,7 @@ use Rattle.report.proofs.lines.chart_line.Statement.{statement}
 use Rattle.report.proofs.lines.chart_line.Tie as tie
 
 -- where the code ends
-named : (c : tie.After-put-named) → (c .put-named .result ≤ 34) × (84 ≤ length (c .put-named .last .0))
+named : (c : tie.After-put-named) → (c .put-named .result ≤ 34) × (129 ≤ length (c .put-named .last .0))
 named c = omega (arith, c .put-named .ensures .1, c .put-named .kept .0, decimal-short 20 (c .before .before .before .before .args .code), c .before .before .before .before .pre)
 
 slice-aggregate-put-named : tie.Need-slice-aggregate-put-named

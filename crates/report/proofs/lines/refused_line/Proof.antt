@@ -12,10 +12,10 @@ use Rattle.report.proofs.lines.refused_line.Statement.{statement}
 use Rattle.report.proofs.lines.refused_line.Tie as tie
 
 -- where the number and the code end
-number : (c : tie.After-put-decimal) → (c .put-decimal .result ≤ 20) × (84 ≤ length (c .put-decimal .last .0))
+number : (c : tie.After-put-decimal) → (c .put-decimal .result ≤ 20) × (129 ≤ length (c .put-decimal .last .0))
 number c = omega (arith, c .put-decimal .ensures .1, c .put-decimal .kept .0, decimal-short 20 (c .before .before .before .args .number), c .before .before .before .pre)
 
-named : (c : tie.After-put-named) → (c .put-named .result ≤ 49) × (84 ≤ length (c .put-named .last .0))
+named : (c : tie.After-put-named) → (c .put-named .result ≤ 49) × (129 ≤ length (c .put-named .last .0))
 named c = omega (arith, c .put-named .ensures .1, c .put-named .kept .0, decimal-short 20 (c .before .before .before .before .before .before .before .before .args .code), number (c .before .before .before .before .before))
 
 put-decimal-requires : tie.Need-put-decimal-requires

@@ -12,13 +12,13 @@ use Rattle.report.proofs.lines.tally_line.Statement.{statement}
 use Rattle.report.proofs.lines.tally_line.Tie as tie
 
 -- where each count ends
-first : (c : tie.After-put-named) → (c .put-named .result ≤ 27) × (84 ≤ length (c .put-named .last .0))
+first : (c : tie.After-put-named) → (c .put-named .result ≤ 27) × (129 ≤ length (c .put-named .last .0))
 first c = omega (arith, c .put-named .ensures .1, c .put-named .kept .0, decimal-short 20 (c .before .before .before .before .args .passed), c .before .before .before .before .pre)
 
-second : (c : tie.After-put-named2) → (c .put-named2 .result ≤ 55) × (84 ≤ length (c .put-named2 .last .0))
+second : (c : tie.After-put-named2) → (c .put-named2 .result ≤ 55) × (129 ≤ length (c .put-named2 .last .0))
 second c = omega (arith, c .put-named2 .ensures .1, c .put-named2 .kept .0, decimal-short 20 (c .before .before .before .before .before .before .before .before .before .args .failed), first (c .before .before .before .before .before))
 
-third : (c : tie.After-put-named3) → (c .put-named3 .result ≤ 83) × (84 ≤ length (c .put-named3 .last .0))
+third : (c : tie.After-put-named3) → (c .put-named3 .result ≤ 83) × (129 ≤ length (c .put-named3 .last .0))
 third c = omega (arith, c .put-named3 .ensures .1, c .put-named3 .kept .0, decimal-short 20 (c .before .before .before .before .before .before .before .before .before .before .before .before .before .before .args .notrun), second (c .before .before .before .before .before))
 
 slice-aggregate-put-named : tie.Need-slice-aggregate-put-named

@@ -1,4 +1,5 @@
 -- Refused, or the three counts.
+use native.Mathlib.Omega.{arith}
 use borrow.Author.Needs.{needs}
 use borrow.Author.Tests.{eq-eqb, ne-eqb}
 use Rattle.report.proofs.printing.closing_line.Statement.{statement}
@@ -11,7 +12,9 @@ same-length : tie.Need-same-length
 same-length c = search needs
 
 returns : tie.Need-returns
-returns c = rw (ne-eqb _ _ (c .before .before .before .before .if1 .taken)) (c .before .before .refused-line .ensures)
+returns c =
+    let l = c .before .before .refused-line in
+    rw (ne-eqb _ _ (c .before .before .before .before .if1 .taken)) (l .ensures .0, omega (arith, l .ensures .1))
 
 tally-line-requires : tie.Need-tally-line-requires
 tally-line-requires c κs = search needs

@@ -4,7 +4,7 @@ use denote.Ref.{now}
 use native.Mathlib.Omega.{arith}
 use borrow.Author.Needs.{needs}
 use Rattle.trace.proofs.tracing.Laws.{start-there, cycle-there}
-use Rattle.report.proofs.printing.Laws.{start-prints, cycle-prints, tally-prints, trace-prints}
+use Rattle.report.proofs.printing.Laws.{cycle-reasons, start-prints, cycle-prints, tally-prints, trace-prints}
 use Rattle.report.proofs.printing.print_call.Statement.{statement}
 use Rattle.report.proofs.printing.print_call.Tie as tie
 
@@ -45,8 +45,13 @@ enum-known-call-2 c = search needs
 cycle-requires : tie.Need-cycle-requires
 cycle-requires c κs = search needs
 
-call-line-requires-2 : tie.Need-call-line-requires-2
-call-line-requires-2 c κs = search needs
+cycle-lines-requires : tie.Need-cycle-lines-requires
+cycle-lines-requires c κs =
+    let o = c .before .before .before .cycle in
+    let s = call (c .before .before .before .before .before .before .before) in
+    let given = c .before .before .before .before .before .call2 .given .0 in
+    let h = cycle-reasons (s .args .chart) (s .args .run) (given .0) (given .1 .0) 32 (o .result) (o .ensures .0) in
+    (s .pre, h .0, h .1)
 
 add-stepped-2 : tie.Need-add-stepped-2
 add-stepped-2 c =
@@ -87,7 +92,7 @@ returns c =
     let asked = c .before .before .before .before .before .before .before .before .before .before .before in
     let a = call asked .args in
     let l = c .before .before .before .call-line in
-    start-prints (a .chart) (now (a .trace)) (a .at) (a .run) (now (a .line)) (l .last .0) _ (l .result) (c .stepped .result) (asked .before .before .number-at .ensures) (l .ensures .1) _ _ (c .before .before .before .before .before .before .before .start .result) (sym (asked .call-at .ensures .0) ∙ c .before .before .before .before .before .before .before .before .before .call .given .1) refl (c .before .before .before .before .before .before .before .start .ensures .0) (l .ensures .0) (c .stepped .ensures)
+    start-prints (a .chart) (now (a .trace)) (a .at) (a .run) (now (a .line)) (l .last .0) _ (l .result) (c .stepped .result) (asked .before .before .number-at .ensures) (omega (arith, l .ensures .1)) _ _ (c .before .before .before .before .before .before .before .start .result) (sym (asked .call-at .ensures .0) ∙ c .before .before .before .before .before .before .before .before .before .call .given .1) refl (c .before .before .before .before .before .before .before .start .ensures .0) (l .ensures .0) (c .stepped .ensures)
 
 same-length-2 : tie.Need-same-length-2
 same-length-2 c = search needs
@@ -96,7 +101,7 @@ returns-2 : tie.Need-returns-2
 returns-2 c =
     let asked = c .before .before .before .before .before .before .before .before .before .before .before in
     let a = call asked .args in
-    let l = c .before .before .before .call-line2 in
+    let l = c .before .before .before .cycle-lines in
     cycle-prints (a .chart) (now (a .trace)) (a .at) (a .run) (now (a .line)) (l .last .0) _ (l .result) (c .stepped2 .result) (asked .before .before .number-at .ensures) (l .ensures .1) _ _ _ (c .before .before .before .before .before .before .before .cycle .result) (sym (asked .call-at .ensures .0) ∙ c .before .before .before .before .before .before .before .before .before .call2 .given .1) refl (c .before .before .before .before .before .before .before .cycle .ensures .0) (l .ensures .0) (c .stepped2 .ensures)
 
 same-length-3 : tie.Need-same-length-3
@@ -133,7 +138,7 @@ print-call-spec =
     stepped-requires
     enum-known-call-2
     cycle-requires
-    call-line-requires-2
+    cycle-lines-requires
     add-stepped-2
     stepped-requires-2
     enum-told
