@@ -11,6 +11,7 @@ static uint8_t file[MOST], trace[MOST];
 static struct tw_chart chart;
 static struct tw_run run;
 static int32_t outputs[TW_OUTPUTS];
+static uint8_t reasons[TW_TRANSITIONS];
 
 static uint32_t number_at(const uint8_t *b, int bytes)
 {
@@ -24,6 +25,14 @@ static uint32_t number_at(const uint8_t *b, int bytes)
 static int stands(size_t size, size_t at, uint32_t kind, uint32_t length)
 {
 	return at < TOO_FAR && size - at >= 4 + length && number_at(trace + at, 2) == length && number_at(trace + at + 2, 2) == kind;
+}
+
+/* Of a cycle that took nothing: why each transition waits, a digit for each. */
+static void print_reasons(void)
+{
+	for (size_t t = 0; t < chart.transitions; t++)
+		putchar('0' + reasons[t]);
+	putchar('\n');
 }
 
 int main(void)
@@ -50,11 +59,13 @@ int main(void)
 		if (at == 0)
 			code = tw_start(&chart, &run, clock, outputs, TW_OUTPUTS);
 		else
-			code = tw_cycle(&chart, &run, clock, number_at(trace + at + 8, 4), outputs, TW_OUTPUTS, &taken);
+			code = tw_cycle(&chart, &run, clock, number_at(trace + at + 8, 4), outputs, TW_OUTPUTS, &taken, reasons);
 		if (code)
 			printf("%zu refused %d\n", call, code);
 		else
 			printf("%zu %016" PRIx64 " %08" PRIx64 " %016" PRIx64 "\n", call, run.active, run.activity, taken);
+		if (at > 0 && !code && !taken)
+			print_reasons();
 		/* an output that takes no more ends the run, quietly */
 		if (ferror(stdout))
 			return 0;

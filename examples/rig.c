@@ -36,8 +36,12 @@ static void print_state(void)
 static void cycle(uint32_t clock, uint32_t inputs)
 {
 	uint64_t taken;
-	if (accepted("cycle", tw_cycle(&chart, &run, clock, inputs, outputs, TW_OUTPUTS, &taken)))
+	uint8_t reasons[TW_TRANSITIONS];
+	if (accepted("cycle", tw_cycle(&chart, &run, clock, inputs, outputs, TW_OUTPUTS, &taken, reasons))) {
 		printf("cycle: transitions taken 0x%" PRIx64 "\n", taken);
+		for (size_t t = 0; taken == 0 && t < chart.transitions; t++)
+			printf("  transition %zu waits for %s\n", t, tw_why((enum tw_reason)reasons[t]));
+	}
 	print_state();
 }
 
@@ -64,6 +68,7 @@ int main(int argc, char **argv)
 		print_state();
 	cycle(1010, 1);
 	cycle(70000, 2);	/* more than a minute later: refused, and the run is as it was */
+	cycle(1509, 2);		/* a millisecond before the wait is over */
 	cycle(1510, 2);
 
 	/* four cycles at once; the clock of the last goes back */

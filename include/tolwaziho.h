@@ -51,6 +51,17 @@ enum tw_code {
 	TW_UNEVEN_LISTS = 18	/* a shift's lists differ in length, or are longer than 4,096 */
 };
 
+/* Why a transition was not taken in a cycle; the first in this order counts. README.md says what to look at. */
+enum tw_reason {
+	TW_TAKEN = 0,
+	TW_NOT_ACTIVE = 1,	/* a source is not active */
+	TW_USED = 2,		/* a source is used by an earlier transition */
+	TW_SIGNAL = 3,		/* a signal in on is 0, or one in off is 1 */
+	TW_WAIT = 4,		/* a source has not been active for the wait */
+	TW_OCCUPIED = 5,	/* a target is active */
+	TW_CLAIMED = 6		/* a target is claimed by an earlier transition */
+};
+
 enum tw_qualifier { TW_N, TW_R, TW_S, TW_L, TW_D, TW_P, TW_SD, TW_DS, TW_SL, TW_P1, TW_P0 };
 
 /* A set is a 64-bit word: bit k is number k. Signals 0 to 31 are the inputs, signal 32 + k is the activity of action k as the call before left it. */
@@ -96,12 +107,13 @@ enum tw_code tw_write(const struct tw_chart *chart, uint8_t *bytes, size_t lent,
 enum tw_code tw_start(const struct tw_chart *chart, struct tw_run *run, uint32_t clock, int32_t *outputs, size_t lent);
 
 /* Makes one cycle at this clock, in ms modulo 2^32, with these inputs, bit k for input k. Accepted: the run moved on where it lies, the set of
-   transitions taken, and the first 32 outputs, no others. Refused by 15, the chart's numbers, 12, 11: the run and the outputs stay, taken is 0. */
+   transitions taken, each transition's tw_reason with 0 beyond the last, and the first 32 outputs, no others. Refused by 15, the chart's numbers,
+   12, 11: the run and the outputs stay, taken and all reasons are 0. */
 enum tw_code tw_cycle(const struct tw_chart *chart, struct tw_run *run, uint32_t clock, uint32_t inputs, int32_t *outputs, size_t lent,
-	uint64_t *taken);
+	uint64_t *taken, uint8_t reasons[TW_TRANSITIONS]);
 
 /* Makes up to 4,096 cycles, number k at clocks[k] with inputs[k] and its activity into activities[k]: what tw_cycle does one after the other, up
-   to the first refusal. Accepted: all are made, and the run and the outputs are the last one's. Refused by 15, the chart's numbers, 12, 18: none is
+   to the first refusal, but for the reasons, which it does not make. Accepted: all are made, and the run and the outputs are the last one's. Refused by 15, the chart's numbers, 12, 18: none is
    made, and everything stays. Refused by 11: `accepted` were made, the one with that number was refused, and everything is as those left it. */
 enum tw_code tw_shift(const struct tw_chart *chart, struct tw_run *run, const uint32_t *clocks, size_t nclocks, const uint32_t *inputs,
 	size_t ninputs, uint64_t *activities, size_t nactivities, int32_t *outputs, size_t lent, size_t *accepted);
@@ -140,10 +152,13 @@ enum tw_code tw_next_record(const uint8_t *bytes, size_t size, struct tw_reader 
 
 /* Does what tw_cycle does, in everything, by document 01's entry for a run that is lent to be advanced; for the tests. */
 enum tw_code tw_advance(const struct tw_chart *chart, struct tw_run *run, uint32_t clock, uint32_t inputs, int32_t *outputs, size_t lent,
-	uint64_t *taken);
+	uint64_t *taken, uint8_t reasons[TW_TRANSITIONS]);
 
 /* A number in words, as "too late" for 11; "unknown" for one that is not above. */
 const char *tw_name(enum tw_code code);
+
+/* A reason in words, as "a wait" for 4; "unknown" for one that is not above. */
+const char *tw_why(enum tw_reason reason);
 
 #ifdef __cplusplus
 }

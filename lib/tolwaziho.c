@@ -35,9 +35,9 @@ enum tw_code tw_start(const struct tw_chart *chart, struct tw_run *run, uint32_t
 }
 
 enum tw_code tw_cycle(const struct tw_chart *chart, struct tw_run *run, uint32_t clock, uint32_t inputs, int32_t *outputs, size_t lent,
-	uint64_t *taken)
+	uint64_t *taken, uint8_t reasons[TW_TRANSITIONS])
 {
-	return tolwaziho_cycle(CHART_OF(chart), RUN_OF(run), clock, inputs, outputs, lent, taken);
+	return tolwaziho_cycle(CHART_OF(chart), RUN_OF(run), clock, inputs, outputs, lent, taken, reasons);
 }
 
 enum tw_code tw_shift(const struct tw_chart *chart, struct tw_run *run, const uint32_t *clocks, size_t nclocks, const uint32_t *inputs,
@@ -63,9 +63,9 @@ enum tw_code tw_next_record(const uint8_t *bytes, size_t size, struct tw_reader 
 }
 
 enum tw_code tw_advance(const struct tw_chart *chart, struct tw_run *run, uint32_t clock, uint32_t inputs, int32_t *outputs, size_t lent,
-	uint64_t *taken)
+	uint64_t *taken, uint8_t reasons[TW_TRANSITIONS])
 {
-	return tolwaziho_advance(CHART_OF(chart), RUN_OF(run), clock, inputs, outputs, lent, taken);
+	return tolwaziho_advance(CHART_OF(chart), RUN_OF(run), clock, inputs, outputs, lent, taken, reasons);
 }
 
 const char *tw_name(enum tw_code code)
@@ -90,6 +90,20 @@ const char *tw_name(enum tw_code code)
 	case TW_BAD_TRACE: return "bad trace";
 	case TW_TOO_FEW_BYTES: return "too few bytes";
 	case TW_UNEVEN_LISTS: return "uneven lists";
+	}
+	return "unknown";
+}
+
+const char *tw_why(enum tw_reason reason)
+{
+	switch (reason) {
+	case TW_TAKEN: return "taken";
+	case TW_NOT_ACTIVE: return "a source not active";
+	case TW_USED: return "a source used by an earlier one";
+	case TW_SIGNAL: return "a signal";
+	case TW_WAIT: return "a wait";
+	case TW_OCCUPIED: return "a target occupied";
+	case TW_CLAIMED: return "a target claimed by an earlier one";
 	}
 	return "unknown";
 }
