@@ -33,7 +33,14 @@ BEGUN = "0 0000000000000001 00000000 " + NO_STEP
 CASES = [
     ("chart A", CHART_A, TRACE_A, LINES_A + ["passed 1 failed 0 notrun 0"]),
     ("chart A, last clock 1509", CHART_A, start(1000) + cycle(1010, 1) + cycle(1509, 2),
-     LINES_A[:2] + ["2 0000000000000002 00000003 " + NO_STEP, "passed 0 failed 0 notrun 1"]),
+     LINES_A[:2] + ["2 0000000000000002 00000003 " + NO_STEP, "14", "passed 0 failed 0 notrun 1"]),
+    # a second line where a cycle takes nothing (document 02, request vi): of no transition; of each digit that a halted chart can have; of 64
+    ("no transition waits", ONE + END, start(0) + cycle(5), [BEGUN, "1" + BEGUN[1:], "", "passed 0 failed 0 notrun 0"]),
+    ("transitions wait", step(1) * 2 + step(0) + transition([2], [0]) + transition([0], [2], on=[0]) + transition([0], [2], wait=10)
+     + transition([0], [1]) + END, start(7) + cycle(6) + cycle(16),
+     ["0 0000000000000003 00000000 " + NO_STEP, "1 refused 11", "2 0000000000000003 00000000 " + NO_STEP, "1345", "passed 0 failed 0 notrun 0"]),
+    ("64 transitions wait", TWO + transition([0], [1], on=[0]) * 64 + END, start(7) + cycle(7),
+     [BEGUN, "1" + BEGUN[1:], "3" * 64, "passed 0 failed 0 notrun 0"]),
     ("a case that fails", CHART_A[:-11] + case(1, 1, 0) + END, TRACE_A, LINES_A + ["passed 0 failed 1 notrun 0"]),
     ("the empty trace", CHART_A, b"", ["passed 0 failed 0 notrun 1"]),
     ("the empty trace, 64 cases", ONE + case(0, 0, 0) * 64 + END, b"", ["passed 0 failed 0 notrun 64"]),
@@ -99,7 +106,7 @@ CASES = [
 
 
 def answered(data, records):
-    """The lines of calls by the model, and the tally's; records are a start's clock and then cycles' clocks and inputs."""
+    """The lines of calls by the model, a second one in the same text, and the tally's; records are a start's clock and then cycles' clocks and inputs."""
     chart = model.parse(data)
     model.check_valid(chart)
     lines, answer = [], None
@@ -113,6 +120,8 @@ def answered(data, records):
         else:
             active, activity, taken = map(model.members, (answer.run.active, answer.run.activity, answer.taken))
             lines.append(f"{number} {active:016x} {activity:08x} {taken:016x}")
+            if number > 0 and not taken:
+                lines[-1] += "\n" + "".join(map(str, answer.reasons))
     bad, good = answer.run.bad, answer.run.good - answer.run.bad
     return lines, f"passed {len(good)} failed {len(bad)} notrun {len(chart.cases) - len(good) - len(bad)}"
 

@@ -882,18 +882,23 @@ fn needed() -> Vec<String> {
     for field in LAYOUT.iter().map(|(field, _, _)| *field).filter(|field| *field != Value && *field != Clock) {
         names.extend([false, true].map(|above| name_of(field, above)));
     }
+    for reason in 1..=6 {
+        names.push(format!("reason {reason} alone"));
+        names.extend((reason + 1..=6).map(|later| format!("reason {reason} before {later}")));
+    }
+    names.extend([1, 3, 4, 5].map(|reason| format!("printed reason {reason}")));
     names.extend(NEEDED.iter().map(|name| name.to_string()));
     names
 }
 
 #[rustfmt::skip]
-const NEEDED: [&str; 31] = [
+const NEEDED: [&str; 32] = [
     "R resets", "P not active at leaving", "transitions taken", "forks taken", "joins taken", "two taken in one call",
     "taken at its wait", "not taken one ms before", "not taken by a later source", "taken beside a younger step",
     "passed", "failed", "not run", "accepted at 60,000 ms", "clock turned", "balanced",
     "files read", "written", "written into its length", "written into more", "one byte too few", "written back", "not written back",
     "shift refused at its beginning", "shift refused in its middle", "shift refused at its end", "shift refused nowhere",
-    "shift of 0", "shift of 1", "shift of 4096", "shift of 4097",
+    "shift of 0", "shift of 1", "shift of 4096", "shift of 4097", "empty second lines",
 ];
 
 fn name_of(field: Field, above: bool) -> String {
@@ -957,14 +962,38 @@ fn count_durations(reached: &mut Reached, held: &Held, active: u64, counters: &[
     }
 }
 
-// Whether anything but a wait keeps transition k, with all sources active, from being taken.
-fn is_kept(call: &Call, taken: u64, k: usize) -> bool {
-    let held = &call.held;
+// What speaks against transition k, each reason of request (vi) by itself, whatever comes before it.
+fn against(call: &Call, taken: u64, k: usize) -> [bool; 6] {
+    let (held, active) = (&call.held, call.held[Active][0]);
     let before = |field: Field| members(taken & numbers(k)).iter().fold(0, |set, earlier| set | held[field][*earlier]);
     let signals = call.inputs | held[Activity][0] << 32;
-    held[Sources][k] & before(Sources) != 0
-        || held[On][k] & !signals | held[Off][k] & signals != 0
-        || held[Targets][k] & (held[Active][0] | before(Targets)) != 0
+    let elapsed = reading(call.clock as i64 - held[Clock][0] as i64);
+    let (sources, targets) = (held[Sources][k], held[Targets][k]);
+    [
+        sources & !active != 0,
+        sources & before(Sources) != 0,
+        held[On][k] & !signals | held[Off][k] & signals != 0,
+        members(sources & active).iter().any(|step| held[Counters][*step] + elapsed < held[Wait][k]),
+        targets & active != 0,
+        targets & before(Targets) != 0,
+    ]
+}
+
+// Whether anything but a wait keeps transition k, with all sources active, from being taken.
+fn is_kept(call: &Call, taken: u64, k: usize) -> bool {
+    let [_, used, signal, _, occupied, claimed] = against(call, taken, k);
+    used || signal || occupied || claimed
+}
+
+// Of an accepted cycle: each reason where nothing else speaks against the transition, and where a later one does too.
+fn count_reasons(reached: &mut Reached, call: &Call, taken: u64, line: &str) {
+    let reasons = line.split(' ').rev().take(64).collect::<Vec<&str>>().into_iter().rev();
+    for (k, word) in reasons.enumerate().filter(|(_, word)| *word != "0") {
+        let later = against(call, taken, k).into_iter().zip(1..).filter(|(so, _)| *so).map(|(_, reason)| reason.to_string());
+        let later: Vec<String> = later.filter(|reason| reason.as_str() > word).collect();
+        reached.note(&format!("reason {word} alone"), later.is_empty());
+        later.iter().for_each(|reason| reached.add(&format!("reason {word} before {reason}"), 1));
+    }
 }
 
 // Of transitions with all sources active: the least counter at the wait, or one below; only a counter behind the first source's below it;
@@ -1020,6 +1049,7 @@ fn count_held(reached: &mut Reached, call: &Call, line: &str) {
         CYCLE => {
             count_clock(reached, call.held[Clock][0], call.clock);
             count_call(reached, call, line);
+            count_reasons(reached, call, numbers[1], line);
         }
         TALLY => count_tally(reached, &numbers[1..]),
         _ => reached.note("balanced", numbers[2] > 0),
@@ -1053,11 +1083,18 @@ fn count_shift(reached: &mut Reached, length: u64, line: &str) {
     }
 }
 
+// Of a cycle that took nothing. An earlier transition that uses or claims a step is taken, so 2 and 6 stand in none.
+fn count_second(reached: &mut Reached, line: &str) {
+    reached.note("empty second lines", line.is_empty());
+    line.chars().for_each(|digit| reached.add(&format!("printed reason {digit}"), 1));
+}
+
 fn count_printed(reached: &mut Reached, case: &Printing, printed: &str) {
     let (mut before, mut last) = ((0, 0), None);
     let accepted = !printed.starts_with("refused chart");
     let held = Held::of(case.file.as_deref().filter(|_| accepted).unwrap_or(&[0; 4]));
-    for (number, line) in printed.lines().enumerate() {
+    let (mut lines, mut number) = (printed.lines(), 0);
+    while let Some(line) = lines.next() {
         let words: Vec<&str> = line.split(' ').collect();
         if words.contains(&"refused") {
             reached.add(&format!("refused {}", words[words.len() - 1]), 1);
@@ -1071,7 +1108,11 @@ fn count_printed(reached: &mut Reached, case: &Printing, printed: &str) {
             count_moves(reached, &held, taken);
             count_actions(reached, &held, before, (active, activity));
             (before, last) = ((active, activity), Some(clock));
+            if number > 0 && taken == 0 {
+                count_second(reached, lines.next().expect("a second line"));
+            }
         }
+        number += 1;
     }
 }
 

@@ -4,7 +4,7 @@
      driver write_back     a file, read and written back: the reading's number if refused, else the writing's, the length, whether it is the same
      driver list_records   a single file: each record, the end or the refusal, and the last answer asked for again
      driver run_cycles     a file, a start and cycles: for each call its whole answer
-     driver lent_cycles    the same by tw_advance: number, taken, active, activity, clock
+     driver lent_cycles    the same by tw_advance: number, taken, active, activity, clock, reasons
      driver held_calls     any chart, any run and a call: its whole answer and all that was lent; tests/held_calls.py has the form
 
    A file stands behind its length in two bytes, but for list_records, whose input is the file. A start is its clock in four bytes and the number of
@@ -23,6 +23,7 @@ static uint8_t file[65536], written[65536];
 static struct tw_chart chart;
 static struct tw_run run;
 static int32_t outputs[LENT];
+static uint8_t reasons[TW_TRANSITIONS];
 
 /* Input */
 
@@ -208,6 +209,19 @@ static void run_words(void)
 	number(run.bad);
 }
 
+/* Those that are not 0, by their transition. */
+static void some_reasons(void)
+{
+	word("w");
+	for (size_t t = 0; t < TW_TRANSITIONS; t++) {
+		if (reasons[t]) {
+			number(t);
+			put(':');
+			put_number(reasons[t]);
+		}
+	}
+}
+
 static void run_cycles_line(enum tw_code code, uint64_t taken)
 {
 	number(code);
@@ -219,6 +233,7 @@ static void run_cycles_line(enum tw_code code, uint64_t taken)
 	some_numbers(run.timers, TW_ACTIONS);
 	word("o");
 	lent_outputs(TW_OUTPUTS);
+	some_reasons();
 	end_line();
 }
 
@@ -229,10 +244,11 @@ static void lent_cycles_line(enum tw_code code, uint64_t taken)
 	number(run.active);
 	number(run.activity);
 	number(run.clock);
+	some_reasons();
 	end_line();
 }
 
-typedef enum tw_code cycle_call(const struct tw_chart *, struct tw_run *, uint32_t, uint32_t, int32_t *, size_t, uint64_t *);
+typedef enum tw_code cycle_call(const struct tw_chart *, struct tw_run *, uint32_t, uint32_t, int32_t *, size_t, uint64_t *, uint8_t *);
 typedef void line_of_call(enum tw_code code, uint64_t taken);
 
 static bool one_run(cycle_call *cycle, line_of_call *line)
@@ -244,12 +260,14 @@ static bool one_run(cycle_call *cycle, line_of_call *line)
 		return false;
 	tw_read(file, size, &chart, &place);
 	memset(outputs, 0, sizeof outputs);
+	memset(reasons, 0, sizeof reasons);	/* a start makes none */
 	line(tw_start(&chart, &run, clock, outputs, TW_OUTPUTS), 0);
 	for (; cycles > 0; cycles--) {
 		uint64_t taken;
 		if (!take(&clock, sizeof clock) || !take(&inputs, sizeof inputs))
 			return false;
-		enum tw_code code = cycle(&chart, &run, clock, inputs, outputs, TW_OUTPUTS, &taken);
+		memset(reasons, 255, sizeof reasons);
+		enum tw_code code = cycle(&chart, &run, clock, inputs, outputs, TW_OUTPUTS, &taken, reasons);
 		line(code, taken);
 	}
 	return true;
@@ -291,8 +309,11 @@ static void held_run(enum tw_code code, uint64_t taken_or_accepted, size_t lent)
 static void held_cycle(uint32_t clock, uint32_t inputs, size_t lent)
 {
 	uint64_t taken;
-	enum tw_code code = tw_cycle(&chart, &run, clock, inputs, outputs, lent, &taken);
+	memset(reasons, 255, sizeof reasons);
+	enum tw_code code = tw_cycle(&chart, &run, clock, inputs, outputs, lent, &taken, reasons);
 	held_run(code, taken, lent);
+	for (size_t t = 0; t < TW_TRANSITIONS; t++)
+		number(reasons[t]);
 }
 
 static void held_tally(void)

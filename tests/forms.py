@@ -13,9 +13,10 @@ from read_charts import CHART_A, store  # noqa: E402
 # kind, the body's place, its length: each body stands 4 bytes behind the end of the record before. Asked again, it answers the same.
 RECORDS = ["1 4 1", "1 9 1", "2 14 5", "2 23 5", "3 32 36", "3 72 36", "4 112 7", "4 123 7", "4 134 7", "5 145 3", "end", "end"]
 
-# start 1000; 1010 with input 0; 70,000 is refused 11; 1510 with input 1. A line is code, taken, active, activity, clock.
+# start 1000; 1010 with input 0; 70,000 is refused 11; 1510 with input 1. A line is code, taken, active, activity, clock,
+# and behind w the reasons that are not 0: transition 1 waits for step 1, then transition 0 for step 0.
 CALLS = [(1010, 1), (70_000, 0), (1510, 2)]
-LINES = ["0 0 1 0 1000", "0 1 2 3 1010", "11 0 2 3 1010", "0 2 1 0 1510"]
+LINES = ["0 0 1 0 1000 w", "0 1 2 3 1010 w 1:1", "11 0 2 3 1010 w", "0 2 1 0 1510 w 0:1"]
 
 
 def text(lines):

@@ -106,6 +106,11 @@ def line(code, taken, run, lent=32, driven=None):
     return " ".join(map(str, [code, taken, *fields, *run["counters"], *run["timers"], *outputs(lent, driven)]))
 
 
+def cycled(code, taken, run, lent=32, driven=None, reasons=()):
+    """A cycle's line ends with the reasons of 64 transitions (document 02, request vi)."""
+    return " ".join([line(code, taken, run, lent, driven), *map(str, reasons), *["0"] * (64 - len(reasons))])
+
+
 # Chart A in step 0 at 1000, and in step 1 from 1010 on: "1010 with 1", "1510 with 2"
 BEGUN = altered(STILL, {"clock": 1000, "active": 1})
 IN_1 = altered(STILL, {"clock": 1010, "active": 2, "activity": 3, "stored": 2})
@@ -123,8 +128,8 @@ def cycle(line, chart=NONE, run=BEGUN, clock=1010, inputs=1, lent=32):
 
 
 def refused(code, chart=NONE, run=BEGUN, clock=1010, lent=32):
-    """A refused cycle returns the run it was given, and leaves the outputs."""
-    cycle(line(code, 0, run, lent), chart, run, clock, 1, lent)
+    """A refused cycle returns the run it was given, and leaves the outputs; its reasons are 0."""
+    cycle(cycled(code, 0, run, lent), chart, run, clock, 1, lent)
 
 
 def tally(line, chart=NONE, run=STILL):
@@ -152,15 +157,15 @@ def shift(code, clocks, inputs, words=None, run=BEGUN, chart=NONE, lent=32, foun
 
 # The printed run of chart A, call by call; step 0 has no active action, step 1 drives output 0 by action 0, value 120
 start(line(0, 0, BEGUN, driven=NONE))
-cycle(line(0, 1, IN_1, driven={0: 120}))
-cycle(line(0, 2, BACK, driven=NONE), run=IN_1, clock=1510, inputs=2)
+cycle(cycled(0, 1, IN_1, driven={0: 120}, reasons=(0, 1)))
+cycle(cycled(0, 2, BACK, driven=NONE, reasons=(1, 0)), run=IN_1, clock=1510, inputs=2)
 # last clock 1509: no transition, and step 1 has counted 499
-cycle(line(0, 0, altered(IN_1, {"clock": 1509, ("counters", 1): 499}), driven={0: 120}), run=IN_1, clock=1509, inputs=2)
+cycle(cycled(0, 0, altered(IN_1, {"clock": 1509, ("counters", 1): 499}), driven={0: 120}, reasons=(1, 4)), run=IN_1, clock=1509, inputs=2)
 # "an accepted call writes the first 32 and no others"; values are signed
 start(line(0, 0, BEGUN, 33, NONE), lent=33)
 start(line(0, 0, BEGUN, 255, NONE), lent=255)
-cycle(line(0, 1, IN_1, 64, {0: -5}), {("value", 0): -5}, lent=64)
-cycle(line(0, 1, IN_1, driven={31: -(2**31)}), {("output", 0): 31, ("value", 0): -(2**31), ("output", 1): 31})
+cycle(cycled(0, 1, IN_1, 64, {0: -5}, (0, 1)), {("value", 0): -5}, lent=64)
+cycle(cycled(0, 1, IN_1, driven={31: -(2**31)}, reasons=(0, 1)), {("output", 0): 31, ("value", 0): -(2**31), ("output", 1): 31})
 # "Entries beyond a count play no part."
 start(line(0, 0, BEGUN, driven=NONE), {("initial", 2): 255, ("output", 2): 32, ("sources", 2): 2**64 - 1, ("qualifier", 3): 11,
                                        ("duration", 255): 2**32 - 1, ("casestep", 1): 2, ("wait", 63): DAY + 1})
@@ -198,7 +203,7 @@ refused(11, clock=61_001)
 refused(11, clock=999)
 # a counter stops at 86,400,000, as does a timer; 60,000 ms are accepted, across the clock's turn
 FULL = altered(STILL, {"clock": 2**32 - 296, "active": 1, "latched": 1, ("counters", 0): DAY - 59_999, ("timers", 0): DAY})
-cycle(line(0, 0, altered(FULL, {"clock": 59_704, ("counters", 0): DAY}), driven=NONE), run=FULL, clock=59_704, inputs=0)
+cycle(cycled(0, 0, altered(FULL, {"clock": 59_704, ("counters", 0): DAY}), driven=NONE, reasons=(3, 1)), run=FULL, clock=59_704, inputs=0)
 # the tally by the marks
 tally("0 0 0 1")
 tally("0 1 0 0", run=BACK)

@@ -4,8 +4,8 @@
   tests/run_cycles.py           write tests/stored/run_cycles.in and run_cycles.out
   tests/run_cycles.py --check   say whether they are what this file says
 
-The lines come from a plain model of document 01's start and cycle, with P as request (ii) of document 02 has it; nothing here
-runs the engine. Every case also states facts derived from the documents by hand, and nothing is written unless the model agrees
+The lines come from a plain model of document 01's start and cycle, with P as request (ii) of document 02 has it and the reasons of
+its request (vi); nothing here runs the engine. Every case also states facts derived from the documents by hand, and nothing is written unless the model agrees
 with all of them.
 Numbers 1 to 6 in the comments are the numbered rules under "One cycle".
 """
@@ -69,24 +69,25 @@ def check_valid(chart):
 # The model: counters holds the active steps only, timers the latched actions only
 
 Run = namedtuple("Run", "clock active activity stored latched good bad counters timers")
-Answer = namedtuple("Answer", "code taken run outputs")
+Answer = namedtuple("Answer", "code taken run outputs reasons")
 
 
 def start(chart, clock):
     initial = {k for k, s in enumerate(chart.steps) if s.initial}
     run = Run(clock, initial, set(), set(), set(), set(), set(), {k: 0 for k in initial}, {})
-    return act(chart, run, set(), entered=initial, left=set())
+    return act(chart, run, set(), entered=initial, left=set(), reasons=[])
 
 
 def cycle(chart, run, lent, clock, inputs):
     elapsed = (clock - run.clock) % 2**32
     if elapsed > 60_000:
-        return Answer(11, set(), run, lent)
+        return Answer(11, set(), run, lent, [])
     signals = set(inputs) | {32 + k for k in run.activity}
     grown = run._replace(clock=clock, counters=grow(run.counters, elapsed), timers=grow(run.timers, elapsed))
-    taken, left, entered = take(chart, grown, signals)
+    taken, left, entered, reasons = take(chart, grown, signals)
+    assert taken == {t for t, reason in enumerate(reasons) if reason == 0}
     moved = mark(chart, move(grown, left, entered), signals, left)
-    return act(chart, moved, taken, entered, left)
+    return act(chart, moved, taken, entered, left, reasons)
 
 
 def grow(times, elapsed):  # rule 1
@@ -94,8 +95,9 @@ def grow(times, elapsed):  # rule 1
 
 
 def take(chart, run, signals):  # rule 2
-    taken, left, entered = set(), set(), set()
+    taken, left, entered, reasons = set(), set(), set(), []
     for number, t in enumerate(chart.transitions):
+        reasons.append(why(t, run, signals, left, entered))
         sources_free = t.sources <= run.active and not t.sources & left
         told = t.on <= signals and not t.off & signals
         targets_free = not t.targets & run.active and not t.targets & entered
@@ -103,7 +105,21 @@ def take(chart, run, signals):  # rule 2
             taken.add(number)
             left |= t.sources
             entered |= t.targets
-    return taken, left, entered
+    return taken, left, entered, reasons
+
+
+def why(t, run, signals, left, entered):  # document 02, request (vi): the first that speaks against it
+    if t.sources - run.active:
+        return 1
+    if t.sources & left:
+        return 2
+    if t.on - signals or t.off & signals:
+        return 3
+    if min(run.counters[k] for k in t.sources) < t.wait:
+        return 4
+    if t.targets & run.active:
+        return 5
+    return 6 if t.targets & entered else 0
 
 
 def move(run, left, entered):  # rule 3, steps
@@ -120,14 +136,14 @@ def mark(chart, run, signals, left):  # rule 3, cases
     return run._replace(good=good, bad=bad)
 
 
-def act(chart, run, taken, entered, left):
+def act(chart, run, taken, entered, left, reasons):
     run, reset = remember(chart, run)
     activity = {
         number for number in range(len(chart.actions))
         if number not in reset
         and (number in run.stored or any(drives(b, run, entered, left) for b in chart.blocks if b.action == number))
     }
-    return Answer(0, taken, run._replace(activity=activity), outputs_of(chart, activity))
+    return Answer(0, taken, run._replace(activity=activity), outputs_of(chart, activity), reasons)
 
 
 def remember(chart, run):  # rule 4
@@ -172,14 +188,15 @@ def line(answer):
     words += [members(s) for s in (run.active, run.activity, run.stored, run.latched, run.good, run.bad)]
     words += ["c"] + [f"{k}:{v}" for k, v in sorted(run.counters.items()) if v]
     words += ["t"] + [f"{k}:{v}" for k, v in sorted(run.timers.items()) if v]
-    return " ".join(map(str, words + ["o"] + answer.outputs))
+    words += ["o"] + answer.outputs + ["w"] + [f"{t}:{reason}" for t, reason in enumerate(answer.reasons) if reason]
+    return " ".join(map(str, words))
 
 
 def facts_of(answer):
-    """Sets as they are; counters, timers and outputs without those that are 0."""
+    """Sets as they are; counters, timers, outputs and reasons without those that are 0."""
     facts = {"code": answer.code, "taken": answer.taken, **answer.run._asdict()}
-    facts["outputs"] = dict(enumerate(answer.outputs))
-    for name in ("counters", "timers", "outputs"):
+    facts["outputs"], facts["reasons"] = dict(enumerate(answer.outputs)), dict(enumerate(answer.reasons))
+    for name in ("counters", "timers", "outputs", "reasons"):
         facts[name] = {k: v for k, v in facts[name].items() if v != 0}
     return facts
 
@@ -518,6 +535,23 @@ for q, before, after in ((L, {31}, {}), (D, {}, {31}), (DS, {}, {31}), (SD, {}, 
          steps(64, [63]) + actions(32) + block(0, 0, N) * 255 + block(63, 31, q, 100) + END, [(99, {}), (100, {})],
          activity=[before, before, after], counters=[{}, {63: 99}, {63: 100}])
 
+# Document 02, request (vi), each reason by itself: 1 a source not active, 2 used by an earlier one, 3 a signal, 4 a wait, 5 a target occupied,
+# 6 claimed by an earlier one; none of a start, of a refused cycle, and of what is taken
+show("reasons of chart A", CHART_A, [(10, {0}), (509, {1}), (61_000, {1}), (510, {1})], reasons=[{}, {1: 1}, {0: 1, 1: 4}, {}, {0: 1}], start=1000)
+show("reason 2", net(3, [0], ([0], [1]), ([0], [2])), [(1, {})], taken=[{}, {0}], reasons=[{}, {1: 2}])
+show("reason 3, on and off", net(2, [0], ([0], [1], [0]), ([0], [1], (), [1])), [(1, {1})], reasons=[{}, {0: 3, 1: 3}])
+show("reason 5", net(2, [0, 1], ([0], [1])), [(1, {})], reasons=[{}, {0: 5}])
+show("reason 5 of a target that is left", net(3, [0, 1], ([1], [2]), ([0], [1])), [(1, {})], taken=[{}, {0}], reasons=[{}, {1: 5}])
+show("reason 6", net(3, [0, 1], ([0], [2]), ([1], [2])), [(1, {})], taken=[{}, {0}], reasons=[{}, {1: 6}])
+# and of two that hold the first in this order; a transition that waits uses and claims nothing
+show("1 before 2", net(4, [0], ([0], [1]), ([0, 2], [3])), [(1, {})], reasons=[{}, {1: 1}])
+show("2 before 3", net(3, [0], ([0], [1]), ([0], [2], [0])), [(1, {})], reasons=[{}, {1: 2}])
+show("3 before 4", net(2, [0], ([0], [1], [0], (), 5)), [(4, {}), (4, {0}), (5, {}), (5, {0})], reasons=[{}, {0: 3}, {0: 4}, {0: 3}, {}])
+show("4 before 5", net(2, [0, 1], ([0], [1], (), (), 5)), [(4, {}), (5, {})], reasons=[{}, {0: 4}, {0: 5}])
+show("5 before 6", net(4, [0, 1, 3], ([0], [2]), ([1], [2, 3])), [(1, {})], reasons=[{}, {1: 5}])
+show("a rival that waits", net(3, [0, 1], ([0], [2], [0]), ([0], [2]), ([1], [2])), [(1, {})], taken=[{}, {1}], reasons=[{}, {0: 3, 2: 6}])
+show("64 reasons", RIVALS, [(1, {}), (2, {1})], reasons=[{}, {k: 3 for k in range(64)}, {k: 3 for k in range(63)}])
+
 
 def answers_of(name, data, clock, calls, expect):
     chart = parse(data)
@@ -543,7 +577,7 @@ if __name__ == "__main__":
     # the two forms by hand: chart A's input, and its calls at 1010 and 1509
     assert files["tests/stored/run_cycles.in"].startswith(
         b"\x98\0" + CHART_A + b"\xe8\3\0\0" + b"\2\0" + b"\xf2\3\0\0\1\0\0\0" + b"\xe6\5\0\0\2\0\0\0")
-    assert lines[1] == "0 1 1010 2 3 2 0 0 0 c t o 120" + " 0" * 31
-    assert lines[5] == "0 0 1509 2 3 2 0 0 0 c 1:499 t o 120" + " 0" * 31
+    assert lines[1] == "0 1 1010 2 3 2 0 0 0 c t o 120" + " 0" * 31 + " w 1:1"
+    assert lines[5] == "0 0 1509 2 3 2 0 0 0 c 1:499 t o 120" + " 0" * 31 + " w 0:1 1:4"
     store(files, "tests/run_cycles.py")
     print(f"run_cycles: {len(CASES)} cases, {len(lines)} calls")

@@ -1,9 +1,9 @@
 // A second engine for the chart, its cycle and its tally, written from document 01 alone, with the
-// writer of charts from request (i) of document 02, the rule for P from request (ii) and the whole
-// shift in one call from request (iii). No other request of document 02 is followed. Words in
-// quotation marks above a function are sentences of document 01, or of request (i), (ii) or (iii)
-// where that is said. A function that only serves the command line says so instead, since none of
-// them speaks of that.
+// writer of charts from request (i) of document 02, the rule for P from request (ii), the whole
+// shift in one call from request (iii) and the reasons why a transition waits from request (vi). No
+// other request of document 02 is followed. Words in quotation marks above a function are sentences
+// of document 01, or of request (i), (ii), (iii) or (vi) where that is said. A function that only
+// serves the command line says so instead, since none of them speaks of that.
 
 use std::collections::BTreeSet;
 use std::io::{Read, Write};
@@ -632,23 +632,34 @@ fn test_outputs(outputs: &[i32]) -> Result<(), Code> {
 // One cycle
 // ---------------------------------------------------------------------------------------------
 
-// "The answer also carries the set of transitions taken (empty at start)."
+// "The answer also carries the set of transitions taken (empty at start)." Request (vi): "The test
+// answers for each transition" (one reason for each of the 64 transition numbers)
 struct Answer {
     code: Code,
     taken: Set,
+    reasons: Vec<u8>,
     run: Run,
 }
 
 // "A refused start returns an all-zero run, a refused cycle the run it was given, both with no
-// transition taken"
+// transition taken"; request (vi): "Reasons ... of a refused call ... are 0."
 fn refusal(code: Code, run: Run) -> Answer {
-    Answer { code, taken: Set::new(), run }
+    Answer { code, taken: Set::new(), reasons: no_reasons(), run }
 }
 
-// "Start tests 15 and then the chart"
+// Request (vi): "Reasons of a start, of a refused call and beyond the last transition are 0."
+fn no_reasons() -> Vec<u8> {
+    vec![0; 64]
+}
+
+// "Start tests 15 and then the chart"; "the set of transitions taken (empty at start)"; request
+// (vi): "Reasons of a start ... are 0."
 fn start(held: &Held, clock: u32, outputs: &mut [i32]) -> Answer {
     match test_outputs(outputs).and_then(|_| test_chart(held)) {
-        Ok(chart) => Answer { code: 0, taken: Set::new(), run: do_start(&chart, clock, outputs) },
+        Ok(chart) => {
+            let run = do_start(&chart, clock, outputs);
+            Answer { code: 0, taken: Set::new(), reasons: no_reasons(), run }
+        }
         Err(code) => refusal(code, zero_run()),
     }
 }
@@ -708,6 +719,7 @@ fn do_cycle(chart: &Chart, given: &Run, clock: u32, inputs: u32, outputs: &mut [
     grow(&mut run.step_counters, &given.active, elapsed(clock, given.clock));
     grow(&mut run.action_timers, &given.latched, elapsed(clock, given.clock));
     let taken = take_transitions(chart, &run, &signals);
+    let reasons = reasons_of(chart, &run, &signals);
     let left = sources_of(chart, &taken);
     let entered = targets_of(chart, &taken);
     move_steps(&mut run, &left, &entered);
@@ -715,7 +727,7 @@ fn do_cycle(chart: &Chart, given: &Run, clock: u32, inputs: u32, outputs: &mut [
     do_actions(chart, &mut run, &entered, &left);
     write_outputs(chart, &run.activity, outputs);
     run.clock = clock;
-    Answer { code: 0, taken, run }
+    Answer { code: 0, taken, reasons, run }
 }
 
 // "Signals 0..31 are the cycle's inputs; signal 32+k is the activity of action k as the previous
@@ -755,6 +767,53 @@ fn take_transitions(chart: &Chart, run: &Run, signals: &Set) -> Set {
         }
     }
     taken
+}
+
+// Request (vi): "The test answers for each transition"; "Reasons ... beyond the last transition are
+// 0." Document 01: "Transitions are taken in number order." (Used are the sources and claimed are
+// the targets of those already taken. This asks `take_transitions` nothing; the selftest holds the
+// two together.)
+fn reasons_of(chart: &Chart, run: &Run, signals: &Set) -> Vec<u8> {
+    let mut reasons = no_reasons();
+    let mut used = Set::new();
+    let mut claimed = Set::new();
+    for (k, transition) in chart.transitions.iter().enumerate() {
+        let reason = reason_of(transition, run, signals, &used, &claimed);
+        if reason == 0 {
+            used.extend(&transition.sources);
+            claimed.extend(&transition.targets);
+        }
+        put(&mut reasons, k, reason);
+    }
+    reasons
+}
+
+// Request (vi): "taken; a source not active; a source used by an earlier one; a signal; a wait; a
+// target occupied; a target claimed by an earlier one. The first in this order counts."; "...
+// counting "a source not active" as 1 and so on to 6" (and "taken" as 0)
+fn reason_of(t: &Transition, run: &Run, signals: &Set, used: &Set, claimed: &Set) -> u8 {
+    if t.sources.iter().any(|step| !run.active.contains(step)) {
+        return 1;
+    }
+    if t.sources.iter().any(|step| used.contains(step)) {
+        return 2;
+    }
+    if t.on.iter().any(|signal| !signals.contains(signal)) {
+        return 3;
+    }
+    if t.off.iter().any(|signal| signals.contains(signal)) {
+        return 3;
+    }
+    if t.sources.iter().any(|step| at(&run.step_counters, *step) < t.wait) {
+        return 4;
+    }
+    if t.targets.iter().any(|step| run.active.contains(step)) {
+        return 5;
+    }
+    if t.targets.iter().any(|step| claimed.contains(step)) {
+        return 6;
+    }
+    0
 }
 
 // "Sources of taken transitions are left"
@@ -1224,7 +1283,8 @@ fn bench_run(file: Option<&[u8]>, trace: &[u8]) -> Vec<u8> {
 
 // "Calls, refused ones too, are numbered from 0."; "a bad trace record `refused trace 16`; both
 // stop there. Otherwise the tally ends the run"; "ended by the end of input"; "A refused cycle
-// prints its number, `refused` and the code, and the run goes on."
+// prints its number, `refused` and the code, and the run goes on."; request (vi): "... prints a
+// second line ..." (for a cycle, never for a start)
 fn print_calls(held: &Held, trace: &[u8]) -> String {
     let mut text = String::new();
     let mut run = zero_run();
@@ -1239,14 +1299,18 @@ fn print_calls(held: &Held, trace: &[u8]) -> String {
             }
             Some(Call::Start { clock }) => {
                 place += 8;
-                start(held, clock, &mut outputs)
+                let answer = start(held, clock, &mut outputs);
+                text.push_str(&call_line(call_number, &answer));
+                answer
             }
             Some(Call::Cycle { clock, inputs }) => {
                 place += 12;
-                cycle(held, &run, clock, inputs, &mut outputs)
+                let answer = cycle(held, &run, clock, inputs, &mut outputs);
+                text.push_str(&call_line(call_number, &answer));
+                text.push_str(&second_line(held, &answer));
+                answer
             }
         };
-        text.push_str(&call_line(call_number, &answer));
         run = answer.run;
         call_number += 1;
     }
@@ -1267,6 +1331,19 @@ fn call_line(call_number: u64, answer: &Answer) -> String {
     format!("{} {:016x} {:08x} {:016x}\n", call_number, active, activity, taken)
 }
 
+// Request (vi): "bench-run, when an accepted cycle takes nothing, prints a second line with the
+// reason of every transition in number order as one digit" (nothing at all for another cycle);
+// "each line ends in byte 10"
+fn second_line(held: &Held, answer: &Answer) -> String {
+    if answer.code != 0 || !answer.taken.is_empty() {
+        return String::new();
+    }
+    let transitions = held.counts.transitions as usize;
+    let reasons = answer.reasons.iter().take(transitions);
+    let digits: String = reasons.map(|reason| reason.to_string()).collect();
+    digits + "\n"
+}
+
 // "one line of `passed`, `failed` and `notrun`, each followed by its count in decimal, with single
 // spaces"
 fn tally_line(tally: &Tally) -> String {
@@ -1274,7 +1351,7 @@ fn tally_line(tally: &Tally) -> String {
 }
 
 // ---------------------------------------------------------------------------------------------
-// The command line (not spoken of in document 01 or in requests (i), (ii) and (iii))
+// The command line (not spoken of in document 01 or in requests (i), (ii), (iii) and (vi))
 // ---------------------------------------------------------------------------------------------
 
 // For the command line: one case of `print`, and what is printed for it.
@@ -1427,8 +1504,8 @@ fn held_case(input: &mut Fields) -> Option<Vec<u8>> {
     let weights: Vec<u16> = input.column(weights, 2)?.iter().map(|w| *w as u16).collect();
     let mut outputs: Vec<i32> = (0..lent).map(|k| 1000 + k).collect();
     let line = match kind {
-        0 => answer_line(&start(&held, clock, &mut outputs), &outputs),
-        1 => answer_line(&cycle(&held, &run, clock, inputs, &mut outputs), &outputs),
+        0 => start_line(&start(&held, clock, &mut outputs), &outputs),
+        1 => cycle_line(&cycle(&held, &run, clock, inputs, &mut outputs), &outputs),
         2 => {
             let answer = tally(&held, &run);
             line_of([answer.code, answer.passed, answer.failed, answer.notrun].iter())
@@ -1448,12 +1525,25 @@ fn held_case(input: &mut Fields) -> Option<Vec<u8>> {
     Some(line)
 }
 
-// For the command line: the line of a start or a cycle.
-fn answer_line(answer: &Answer, outputs: &[i32]) -> Vec<u8> {
+// For the command line: the line of a start.
+fn start_line(answer: &Answer, outputs: &[i32]) -> Vec<u8> {
+    line_of(answer_values(answer, outputs).iter())
+}
+
+// For the command line: the line of a cycle, with the 64 reasons as its last 64 numbers.
+fn cycle_line(answer: &Answer, outputs: &[i32]) -> Vec<u8> {
+    let mut values = answer_values(answer, outputs);
+    values.extend(answer.reasons.iter().map(|reason| i128::from(*reason)));
+    line_of(values.iter())
+}
+
+// For the command line: the number, the transitions taken, the run and the lent outputs, in the
+// line of a start or a cycle.
+fn answer_values(answer: &Answer, outputs: &[i32]) -> Vec<i128> {
     let mut values = vec![i128::from(answer.code), i128::from(word_of(&answer.taken))];
     values.extend(run_values(&answer.run));
     values.extend(outputs.iter().map(|value| i128::from(*value)));
-    line_of(values.iter())
+    values
 }
 
 // For the command line: the fields of a run, in the line of a start, a cycle or a shift.
@@ -1677,6 +1767,15 @@ impl Bench {
         self.check(name, right && (code == 0 || sum == 0) && (code != 0 || sum != 0));
     }
 
+    // The reasons after a start at 0 and cycles: these digits, and 0 for every number behind them;
+    // "taken" just where it was before.
+    fn waits(&mut self, name: &str, held: &Held, cycles: &[(u32, u32)], digits: &str) {
+        let (answer, _) = played(held, 0, cycles);
+        self.check(name, answer.code == 0 && answer.reasons == reasons_by_hand(digits));
+        self.check(name, digits.len() == held.counts.transitions as usize);
+        self.check(name, taken_agree(held, &answer));
+    }
+
     // A bench-run with chart A and what it prints.
     fn prints(&mut self, name: &str, trace: &[Vec<u8>], printed: &str) {
         let output = bench_run(Some(&chart_a()), &trace.concat());
@@ -1724,7 +1823,20 @@ fn selftest() {
     check_shift_18(&mut bench);
     check_shift_4096(&mut bench);
     check_shift_lines(&mut bench);
+    check_reason_sources(&mut bench);
+    check_reason_guards(&mut bench);
+    check_reason_targets(&mut bench);
+    check_reason_neighbours(&mut bench);
+    check_reason_order(&mut bench);
+    check_reason_beyond(&mut bench);
+    check_reason_none(&mut bench);
+    check_reason_chart_a(&mut bench);
+    check_reason_taken(&mut bench);
+    check_reason_many(&mut bench);
+    check_reason_lines(&mut bench);
     check_printed(&mut bench);
+    check_printed_second(&mut bench);
+    check_printed_no_second(&mut bench);
     check_printed_refusals(&mut bench);
     check_trace_length(&mut bench);
     say(format!("selftest: {} passed\n", bench.passed).as_bytes());
@@ -2871,8 +2983,8 @@ fn check_shift_lines(b: &mut Bench) {
         call_bytes(5, clocks + 65_536 * inputs, words, 33, 0)
     };
     let started = format!("0 0{}{}\n", run("77 1 0", 0), written(0));
-    let cycled = format!("0 0{}{}\n", run("1101 1 1", 101), written(7));
-    let refused = format!("11 0{}{}\n", given, lent);
+    let cycled = format!("0 0{}{}{}\n", run("1101 1 1", 101), written(7), zeros(64));
+    let refused = format!("11 0{}{}{}\n", given, lent, zeros(64));
     let start = call_bytes(0, 77, 0, 33, 0);
     let cycle = |clock| call_bytes(1, clock, 0, 33, 0);
     b.check("line of a start", held_lines(&[start.clone()]) == (started.clone(), true));
@@ -2934,6 +3046,341 @@ fn check_shift_lines(b: &mut Bench) {
 }
 
 // ---------------------------------------------------------------------------------------------
+// The selftest: why a transition waits
+// ---------------------------------------------------------------------------------------------
+
+// Request (vi): "Reasons ... beyond the last transition are 0." (the 64 reasons that begin with
+// these digits)
+fn reasons_by_hand(digits: &str) -> Vec<u8> {
+    let mut reasons: Vec<u8> = digits.bytes().map(|digit| digit - b'0').collect();
+    reasons.resize(64, 0);
+    reasons
+}
+
+// Request (vi): ""Taken" is given exactly where it was before" (whether the reasons of an accepted
+// cycle say so)
+fn taken_agree(held: &Held, answer: &Answer) -> bool {
+    let transitions = numbers(held.counts.transitions as usize);
+    let said = transitions.iter().copied().filter(|k| at(&answer.reasons, *k) == 0).collect();
+    answer.taken == said
+}
+
+// A chart of steps, initial where the digit is 1, and these transitions, held.
+fn held_steps(initial: &[u8], moves: &[Vec<u8>]) -> Held {
+    let steps: Vec<Vec<u8>> = initial.iter().map(|digit| step(*digit)).collect();
+    held_of(&[steps.concat(), moves.concat()])
+}
+
+// Request (vi): "a source not active; a source used by an earlier one" (1 and 2, each by itself)
+fn check_reason_sources(b: &mut Bench) {
+    let held = held_steps(&[1, 0, 0], &[transition(2, 4, 0, 0, 0)]);
+    b.waits("1, the only source", &held, &[(1, 0)], "1");
+    let held = held_steps(&[1, 0, 0], &[transition(3, 4, 0, 0, 0)]);
+    b.waits("1, the second of two sources", &held, &[(1, 0)], "1");
+    let held = held_steps(&[0, 1, 0], &[transition(3, 4, 0, 0, 0)]);
+    b.waits("1, the first of two sources", &held, &[(1, 0)], "1");
+    let moves = [transition(1, 2, 0, 0, 0), transition(2, 4, 0, 0, 0)];
+    let held = held_steps(&[1, 0, 0], &moves);
+    b.waits("1, entered only in this cycle", &held, &[(1, 0)], "01");
+    b.waits("1, left in the cycle before", &held, &[(1, 0), (2, 0)], "10");
+    b.waits("1, both", &held, &[(1, 0), (2, 0), (3, 0)], "11");
+    let moves = [transition(1, 2, 0, 0, 0), transition(1, 4, 0, 0, 0)];
+    b.waits("2", &held_steps(&[1, 0, 0], &moves), &[(1, 0)], "02");
+    let moves = [transition(1, 2, 0, 0, 0), transition(5, 8, 0, 0, 0)];
+    b.waits("2, one of two sources", &held_steps(&[1, 0, 1, 0], &moves), &[(1, 0)], "02");
+    let moves = [transition(1, 2, 1, 0, 0), transition(1, 4, 0, 0, 0)];
+    let held = held_steps(&[1, 0, 0], &moves);
+    b.waits("2 only of one that was taken", &held, &[(1, 0)], "30");
+    b.waits("2, the same when it is", &held, &[(1, 1)], "02");
+    let moves = [transition(1, 4, 0, 0, 0), transition(3, 8, 0, 0, 0), transition(2, 16, 0, 0, 0)];
+    let held = held_steps(&[1, 1, 0, 0, 0], &moves);
+    b.waits("2 does not use its other source", &held, &[(1, 0)], "020");
+}
+
+// Request (vi): "a signal; a wait" (3 and 4, each by itself)
+fn check_reason_guards(b: &mut Bench) {
+    let held = held_steps(&[1, 0], &[transition(1, 2, 5, 2, 0)]);
+    b.waits("3, on", &held, &[(1, 4)], "3");
+    b.waits("3, the other on", &held, &[(1, 1)], "3");
+    b.waits("3, off", &held, &[(1, 7)], "3");
+    b.waits("3, on and off", &held, &[(1, 3)], "3");
+    b.waits("3, none of them", &held, &[(1, 5)], "0");
+    b.waits("3, others play no part", &held, &[(1, u32::MAX - 2)], "0");
+    let moves = transition(1, 2, 1 << 32, 0, 0);
+    let held = held_of(&[step(1), step(0), action(0, 1), moves, block(0, 0, 4, 10)]);
+    b.waits("3, an action not active before", &held, &[(10, u32::MAX)], "3");
+    b.waits("3, an action active before", &held, &[(10, 0), (10, 0)], "0");
+    let moves = transition(1, 2, 0, 1 << 32, 0);
+    let held = held_of(&[step(1), step(0), action(0, 1), moves, block(0, 0, 9, 0)]);
+    b.waits("3, an action still active before", &held, &[(1, 0)], "3");
+    b.waits("3, an action no longer active", &held, &[(1, 0), (1, 0)], "0");
+    let held = held_steps(&[1, 0], &[transition(1, 2, 0, 0, 10)]);
+    b.waits("4, at 0", &held, &[(0, 0)], "4");
+    b.waits("4, at 9", &held, &[(9, 0)], "4");
+    b.waits("4, at 10", &held, &[(10, 0)], "0");
+    b.waits("4, at 9 and then 10", &held, &[(9, 0), (10, 0)], "0");
+    let moves = [transition(2, 4, 1, 0, 0), transition(5, 8, 0, 0, 10)];
+    let held = held_steps(&[1, 1, 0, 0], &moves);
+    b.waits("4, one of two sources, 9", &held, &[(5, 1), (14, 0)], "14");
+    b.waits("4, one of two sources, 10", &held, &[(5, 1), (15, 0)], "10");
+}
+
+// Request (vi): "a target occupied; a target claimed by an earlier one" (5 and 6, each by itself);
+// document 01: "Steps 0 and 1 initial, 0→2 and 1→2 both true"
+fn check_reason_targets(b: &mut Bench) {
+    let held = held_steps(&[1, 1], &[transition(1, 2, 0, 0, 0)]);
+    b.waits("5", &held, &[(1, 0)], "5");
+    let held = held_steps(&[1, 0, 1], &[transition(1, 6, 0, 0, 0)]);
+    b.waits("5, one of two targets", &held, &[(1, 0)], "5");
+    let moves = [transition(1, 4, 0, 0, 0), transition(2, 1, 0, 0, 0)];
+    let held = held_steps(&[1, 1, 0], &moves);
+    b.waits("5, left only in this cycle", &held, &[(1, 0)], "05");
+    b.waits("5, left in the cycle before", &held, &[(1, 0), (2, 0)], "10");
+    let moves = [transition(1, 4, 0, 0, 0), transition(2, 4, 0, 0, 0)];
+    let held = held_steps(&[1, 1, 0], &moves);
+    b.waits("6", &held, &[(1, 0)], "06");
+    b.waits("6, and then 5", &held, &[(1, 0), (2, 0)], "15");
+    let moves = [transition(1, 4, 0, 0, 0), transition(2, 12, 0, 0, 0)];
+    b.waits("6, one of two targets", &held_steps(&[1, 1, 0, 0], &moves), &[(1, 0)], "06");
+    let moves = [transition(1, 4, 1, 0, 0), transition(2, 4, 0, 0, 0)];
+    let held = held_steps(&[1, 1, 0], &moves);
+    b.waits("6 only of one that was taken", &held, &[(1, 0)], "30");
+    b.waits("6, the same when it is", &held, &[(1, 1)], "06");
+    let moves =
+        [transition(1, 8, 0, 0, 0), transition(2, 24, 0, 0, 0), transition(4, 16, 0, 0, 0)];
+    let held = held_steps(&[1, 1, 1, 0, 0], &moves);
+    b.waits("6 does not claim its other target", &held, &[(1, 0)], "060");
+}
+
+// Request (vi): "The first in this order counts." (each two neighbours, and each by itself beside
+// them)
+fn check_reason_neighbours(b: &mut Bench) {
+    let moves = [transition(1, 2, 0, 0, 0), transition(5, 8, 0, 0, 0)];
+    b.waits("1 before 2", &held_steps(&[1, 0, 0, 0], &moves), &[(1, 0)], "01");
+    b.waits("1 before 2, 2 alone", &held_steps(&[1, 0, 1, 0], &moves), &[(1, 0)], "02");
+    let moves = [transition(2, 4, 0, 0, 0), transition(3, 8, 0, 0, 0)];
+    b.waits("1 before 2, sources turned", &held_steps(&[0, 1, 0, 0], &moves), &[(1, 0)], "01");
+    let moves = [transition(1, 2, 0, 0, 0), transition(1, 4, 1, 2, 0)];
+    let held = held_steps(&[1, 0, 0], &moves);
+    b.waits("2 before 3, on", &held, &[(1, 0)], "02");
+    b.waits("2 before 3, off", &held, &[(1, 3)], "02");
+    b.waits("2 before 3, 2 alone", &held, &[(1, 1)], "02");
+    let held = held_steps(&[1, 0], &[transition(1, 2, 1, 2, 10)]);
+    b.waits("3 before 4, on", &held, &[(9, 0)], "3");
+    b.waits("3 before 4, off", &held, &[(9, 3)], "3");
+    b.waits("3 before 4, 4 alone", &held, &[(9, 1)], "4");
+    b.waits("3 before 4, 3 alone", &held, &[(10, 0)], "3");
+    b.waits("3 before 4, neither", &held, &[(10, 1)], "0");
+    let held = held_steps(&[1, 1], &[transition(1, 2, 0, 0, 10)]);
+    b.waits("4 before 5", &held, &[(9, 0)], "4");
+    b.waits("4 before 5, 5 alone", &held, &[(10, 0)], "5");
+    let moves = [transition(1, 8, 0, 0, 0), transition(2, 12, 0, 0, 0)];
+    b.waits("5 before 6", &held_steps(&[1, 1, 1, 0], &moves), &[(1, 0)], "05");
+    b.waits("5 before 6, 6 alone", &held_steps(&[1, 1, 0, 0], &moves), &[(1, 0)], "06");
+    let moves = [transition(1, 4, 0, 0, 0), transition(2, 12, 0, 0, 0)];
+    b.waits("5 before 6, targets turned", &held_steps(&[1, 1, 0, 1], &moves), &[(1, 0)], "05");
+}
+
+// A chart in which just these reasons from 1 to 6 hold transition 1 back in a cycle at 9 with input
+// 0 off and input 1 on. Steps 0, 2 and 5 are initial; transition 0 is always taken, from 0 to 1;
+// transition 1 goes from 2 to 4. For 1 it has the source 3 as well, for 2 the source 0, for 3 a
+// signal, on or off, for 4 a wait of 10, for 5 the target 5 and for 6 the target 1.
+fn held_back(why: &Set, signal: (u64, u64)) -> Held {
+    let with = |reason: usize, set: u64| if why.contains(&reason) { set } else { 0 };
+    let sources = 4 | with(1, 8) | with(2, 1);
+    let targets = 16 | with(5, 32) | with(6, 2);
+    let (on, off) = (with(3, signal.0), with(3, signal.1));
+    let second = transition(sources, targets, on, off, with(4, 10) as u32);
+    held_steps(&[1, 0, 1, 0, 0, 1], &[transition(1, 2, 0, 0, 0), second])
+}
+
+// Request (vi): "The first in this order counts." (all 64 sets of the six reasons)
+fn check_reason_order(b: &mut Bench) {
+    for word in 0..64 {
+        let why = set_of(word << 1);
+        let digits = format!("0{}", why.iter().next().unwrap_or(&0));
+        for signal in [(1, 0), (0, 2), (3, 0), (0, 3), (1, 2)].iter() {
+            let held = held_back(&why, *signal);
+            b.check("the chart of these reasons", held_code(&held) == 0);
+            b.waits("the first of these reasons", &held, &[(9, 2)], &digits);
+        }
+    }
+}
+
+// Request (vi): "Reasons ... beyond the last transition are 0."; document 01: "Entries beyond a
+// count play no part."
+fn check_reason_beyond(b: &mut Bench) {
+    b.waits("no transitions", &held_of(&[step(1)]), &[(1, 0)], "");
+    let held = held_a_with_junk();
+    b.waits("junk beyond the last transition", &held, &[(1, 0)], "31");
+    b.waits("junk beside a taken one", &held, &[(1, 1)], "01");
+    let mut held = held_a();
+    held.counts.transitions = 1;
+    b.waits("one transition fewer", &held, &[(1, 0)], "3");
+    b.waits("one transition fewer, taken", &held, &[(1, 1)], "0");
+    held.counts.transitions = 0;
+    b.waits("no transition counted", &held, &[(1, 1)], "");
+    let held = held_steps(&[1, 0], &vec![transition(1, 2, 1, 0, 0); 64]);
+    b.waits("64 transitions", &held, &[(1, 0)], &"3".repeat(64));
+    b.waits("64 transitions, one taken", &held, &[(1, 1)], &("0".to_string() + &"2".repeat(63)));
+    b.waits("64 transitions, then none", &held, &[(1, 1), (2, 1)], &"1".repeat(64));
+    let last = [vec![transition(2, 1, 0, 0, 0); 63], vec![transition(1, 2, 0, 0, 0)]].concat();
+    let held = held_steps(&[1, 0], &last);
+    b.waits("64 transitions, the last taken", &held, &[(1, 0)], &("1".repeat(63) + "0"));
+}
+
+// Request (vi): "Reasons of a start, of a refused call ... are 0."
+fn check_reason_none(b: &mut Bench) {
+    let zeros = vec![0; 64];
+    let mut outputs = vec![0; 32];
+    let held = held_steps(&[1, 1], &[transition(1, 2, 0, 0, 0)]);
+    let began = start(&held, 5, &mut outputs);
+    b.check("reasons of a start", began.code == 0 && began.reasons == zeros);
+    let full = held_steps(&[1, 0], &vec![transition(2, 1, 1, 0, 9); 64]);
+    let answer = start(&full, 5, &mut outputs);
+    b.check("reasons of a start, 64 transitions", answer.code == 0 && answer.reasons == zeros);
+    let answer = start(&held, 5, &mut []);
+    b.check("reasons of a start, 15", answer.code == 15 && answer.reasons == zeros);
+    let mut broken = held.clone();
+    broken.counts.cases = 65;
+    let answer = start(&broken, 5, &mut outputs);
+    b.check("reasons of a start, 4", answer.code == 4 && answer.reasons == zeros);
+    let answer = cycle(&held, &began.run, 5, 0, &mut outputs);
+    b.check("not of an accepted cycle", answer.code == 0 && answer.reasons != zeros);
+    let answer = cycle(&held, &began.run, 5, 0, &mut []);
+    b.check("reasons of a cycle, 15", answer.code == 15 && answer.reasons == zeros);
+    let answer = cycle(&broken, &began.run, 5, 0, &mut outputs);
+    b.check("reasons of a cycle, 4", answer.code == 4 && answer.reasons == zeros);
+    let mut strange = began.run.clone();
+    strange.active = numbers(3);
+    let answer = cycle(&held, &strange, 5, 0, &mut outputs);
+    b.check("reasons of a cycle, 12", answer.code == 12 && answer.reasons == zeros);
+    for clock in [4, 60_006].iter() {
+        let answer = cycle(&held, &began.run, *clock, 0, &mut outputs);
+        b.check("reasons of a cycle, 11", answer.code == 11 && answer.reasons == zeros);
+    }
+}
+
+// "Chart A, last clock 1509: no transition"; the trace of chart A
+fn check_reason_chart_a(b: &mut Bench) {
+    let why = |cycles: &[(u32, u32)], digits: &str| {
+        let (answer, _) = played(&held_a(), 1000, cycles);
+        answer.code == 0 && answer.reasons == reasons_by_hand(digits)
+    };
+    b.check("chart A, reasons of call 0", why(&[], ""));
+    b.check("chart A, reasons of call 1", why(&[(1010, 1)], "01"));
+    b.check("chart A, reasons of call 2", why(&[(1010, 1), (1510, 2)], "10"));
+    b.check("chart A, last 1509, reasons", why(&[(1010, 1), (1509, 2)], "14"));
+    b.check("chart A, no input", why(&[(1010, 1), (1509, 0)], "13"));
+    b.check("chart A, no input, wait reached", why(&[(1010, 1), (1510, 1)], "13"));
+    b.check("chart A, other input at first", why(&[(1010, 2)], "31"));
+    let mut both = run_a();
+    both.active = numbers(2);
+    let mut outputs = vec![0; 32];
+    let answer = cycle(&held_a(), &both, 1499, 3, &mut outputs);
+    b.check("chart A, both steps, 499", answer.reasons == reasons_by_hand("54"));
+    let answer = cycle(&held_a(), &both, 1500, 3, &mut outputs);
+    b.check("chart A, both steps, 500", answer.reasons == reasons_by_hand("55"));
+    let answer = cycle(&held_a(), &zero_run(), 0, 3, &mut outputs);
+    b.check("chart A, no step", answer.code == 0 && answer.reasons == reasons_by_hand("11"));
+}
+
+// Request (vi): ""Taken" is given exactly where it was before" (all qualifiers, every call)
+fn check_reason_taken(b: &mut Bench) {
+    let held = held_of_all();
+    let cycles = cycles_of_all();
+    let mut took = 0;
+    for count in 1..cycles.len() + 1 {
+        let (answer, _) = played(&held, 4_294_967_000, cycles.get(..count).unwrap_or(&[]));
+        b.check("taken as before", answer.code == 0 && taken_agree(&held, &answer));
+        took += answer.taken.len();
+    }
+    b.check("some were taken", took > 4);
+}
+
+// Numbers that look drawn by lot, each from the one before; the upper half is used.
+fn next_lot(lot: &mut u64) -> u64 {
+    *lot = lot.wrapping_mul(6_364_136_223_846_793_005).wrapping_add(1_442_695_040_888_963_407);
+    *lot >> 33
+}
+
+// A transition among six steps and three inputs, drawn by lot; sources and targets share no step,
+// on and off no signal.
+fn transition_by_lot(lot: &mut u64) -> Vec<u8> {
+    let first = next_lot(lot) % 6;
+    let sources = 1 << first | (1 << (next_lot(lot) % 6)) * (next_lot(lot) % 2);
+    let mut targets = 1 << (next_lot(lot) % 6) | 1 << (next_lot(lot) % 6);
+    targets &= !sources;
+    if targets == 0 {
+        targets = 63 & !sources;
+    }
+    let on = next_lot(lot) & next_lot(lot) & 7;
+    let off = next_lot(lot) & next_lot(lot) & 7 & !on;
+    transition(sources, targets, on, off, (next_lot(lot) % 3 * 10) as u32)
+}
+
+// Request (vi): ""Taken" is given exactly where it was before" (many charts with eight transitions,
+// six cycles each; every reason must have been given)
+fn check_reason_many(b: &mut Bench) {
+    let mut lot = 1;
+    let mut given = BTreeSet::new();
+    for _ in 0..200 {
+        let moves: Vec<Vec<u8>> = (0..8).map(|_| transition_by_lot(&mut lot)).collect();
+        let initial: Vec<u8> = (0..5).map(|_| (next_lot(&mut lot) % 2) as u8).collect();
+        let held = held_steps(&[vec![1], initial].concat(), &moves);
+        let mut run = played(&held, 0, &[]).0.run;
+        for k in 1..7 {
+            let inputs = next_lot(&mut lot) as u32 % 8;
+            let answer = cycle(&held, &run, 7 * k, inputs, &mut [0; 32]);
+            b.check("taken as before, by lot", answer.code == 0 && taken_agree(&held, &answer));
+            let beyond = answer.reasons.iter().skip(8).all(|reason| *reason == 0);
+            b.check("64 reasons, by lot", answer.reasons.len() == 64 && beyond);
+            given.extend(answer.reasons.iter().copied());
+            run = answer.run;
+        }
+    }
+    b.check("every reason was given", given == (0..7).collect());
+}
+
+// For the command line: the line of a cycle ends with the 64 reasons, that of a start does not.
+fn check_reason_lines(b: &mut Bench) {
+    let zeros = |count: usize| " 0".repeat(count);
+    let (answer, _) = played(&held_a(), 1000, &[(1010, 1), (1509, 2)]);
+    let line = String::from_utf8(cycle_line(&answer, &[120, -3])).unwrap_or_default();
+    let run = format!("0 0 1509 2 3 2 0 0 0 0 499{}", zeros(62 + 32));
+    b.check("line of a cycle, 14", line == format!("{} 120 -3 1 4{}\n", run, zeros(62)));
+    let line = String::from_utf8(start_line(&answer, &[120, -3])).unwrap_or_default();
+    b.check("the same without reasons", line == format!("{} 120 -3\n", run));
+    // Two steps and one transition from 0 to 1 with a wait of 200 in the image.
+    let mut image = held_image();
+    for (place, byte) in [(0, 2), (16, 1), (264, 1), (776, 2), (2312, 200)].iter() {
+        put(&mut image, *place, *byte);
+    }
+    let line_of_call = |call: Vec<u8>| {
+        let input = [image.clone(), call].concat();
+        let line = held_case(&mut Fields::new(&input)).unwrap_or_default();
+        String::from_utf8(line).unwrap_or_default()
+    };
+    let rest = zeros(62 + 32);
+    let run = |text: &str, counters: &str| format!("{} 0 0 0 0 {}{}", text, counters, rest);
+    let out = |first: i32| format!(" {}{}", first, zeros(31));
+    let waits = format!("{}{} 4{}\n", run("0 0 1199 1 1", "199 0"), out(7), zeros(63));
+    b.check("line of a cycle, 4", line_of_call(call_bytes(1, 1199, 0, 32, 0)) == waits);
+    let taken = format!("{}{}{}\n", run("0 1 1200 2 0", "0 0"), out(0), zeros(64));
+    b.check("line of a cycle, taken", line_of_call(call_bytes(1, 1200, 0, 32, 0)) == taken);
+    let lent: String = (0..32).map(|k| format!(" {}", 1000 + k)).collect();
+    let refused = format!("{}{}{}\n", run("11 0 1000 1 0", "0 0"), lent, zeros(64));
+    b.check("line of a cycle, 11", line_of_call(call_bytes(1, 999, 0, 32, 0)) == refused);
+    let few = format!("{} 1000{}\n", run("15 0 1000 1 0", "0 0"), zeros(64));
+    b.check("line of a cycle, 15", line_of_call(call_bytes(1, 1199, 0, 1, 0)) == few);
+    let began = format!("{}{}\n", run("0 0 1199 1 0", "0 0"), out(0));
+    b.check("line of a start, none", line_of_call(call_bytes(0, 1199, 0, 32, 0)) == began);
+    let lists = [call_bytes(5, 65_537, 1, 32, 0), four_bytes(&[1199, 0])].concat();
+    let shifted = format!("{}{} 1\n", run("0 1 1199 1 1", "199 0"), out(7));
+    b.check("line of a shift, none", line_of_call(lists) == shifted);
+}
+
+// ---------------------------------------------------------------------------------------------
 // The selftest: the printed run
 // ---------------------------------------------------------------------------------------------
 
@@ -2956,6 +3403,82 @@ fn check_printed(b: &mut Bench) {
     let file = [full, blocks.concat(), end()].concat();
     let printed = "0 ffffffffffffffff ffffffff 0000000000000000\npassed 0 failed 0 notrun 0\n";
     b.check("all hex digits", bench_run(Some(&file), &start_record(9)) == printed.as_bytes());
+}
+
+// Request (vi): "bench-run, when an accepted cycle takes nothing, prints a second line with the
+// reason of every transition in number order as one digit"
+fn check_printed_second(b: &mut Bench) {
+    let began = "0 0000000000000001 00000000 0000000000000000\n";
+    let first = "1 0000000000000002 00000003 0000000000000001\n";
+    let second = "2 0000000000000002 00000003 0000000000000000\n14\n";
+    let notrun = "passed 0 failed 0 notrun 1\n";
+    let trace = [start_record(1000), cycle_record(1010, 1), cycle_record(1509, 2)];
+    b.prints("chart A, last 1509", &trace, &[began, first, second, notrun].concat());
+    let third = "3 0000000000000001 00000000 0000000000000002\n";
+    let fourth = "4 0000000000000001 00000000 0000000000000000\n31\n";
+    let passed = "passed 1 failed 0 notrun 0\n";
+    let trace = [trace.concat(), cycle_record(1510, 2), cycle_record(1511, 2)];
+    let printed = [began, first, second, third, fourth, passed].concat();
+    b.prints("chart A, and two more", &trace, &printed);
+    let trace = [start_record(1000), cycle_record(1000, 0), vec![8]];
+    let idle = "1 0000000000000001 00000000 0000000000000000\n31\n";
+    b.prints("before a bad record", &trace, &[began, idle, "refused trace 16\n"].concat());
+    let moves = [
+        transition(4, 1, 0, 0, 0),
+        transition(1, 4, 1, 0, 0),
+        transition(1, 4, 0, 0, 10),
+        transition(1, 2, 0, 0, 0),
+    ];
+    let file = [step(1), step(1), step(0), moves.concat(), end()].concat();
+    let trace = [start_record(0), cycle_record(9, 0)].concat();
+    let lines = [
+        "0 0000000000000003 00000000 0000000000000000\n",
+        "1 0000000000000003 00000000 0000000000000000\n1345\n",
+        "passed 0 failed 0 notrun 0\n",
+    ];
+    b.check("1, 3, 4 and 5", bench_run(Some(&file), &trace) == lines.concat().as_bytes());
+    let file = [step(1), step(1), transition(1, 2, 0, 0, 0).repeat(64), end()].concat();
+    let fives = "5".repeat(64) + "\n";
+    let idle = "1 0000000000000003 00000000 0000000000000000\n";
+    let [start, _, tally] = lines;
+    let lines = [start, idle, &fives, tally];
+    b.check("64 digits", bench_run(Some(&file), &trace) == lines.concat().as_bytes());
+}
+
+// Request (vi): "when an accepted cycle takes nothing" (none after a start, a refused cycle or one
+// that takes something; an empty one for a chart without transitions)
+fn check_printed_no_second(b: &mut Bench) {
+    let began = "0 0000000000000001 00000000 0000000000000000\n";
+    let none = "passed 0 failed 0 notrun 0\n";
+    let file = [step(1), end()].concat();
+    let print = |trace: &[Vec<u8>]| bench_run(Some(&file), &trace.concat());
+    let trace = [start_record(0), cycle_record(1, 0)];
+    let idle = "1 0000000000000001 00000000 0000000000000000\n\n";
+    b.check("an empty second line", print(&trace) == [began, idle, none].concat().as_bytes());
+    let trace = [start_record(0)];
+    b.check("none after a start", print(&trace) == [began, none].concat().as_bytes());
+    let trace = [start_record(1), cycle_record(0, 0)];
+    let printed = [began, "1 refused 11\n", none].concat();
+    b.check("none after a refused cycle", print(&trace) == printed.as_bytes());
+    let trace = [start_record(1), cycle_record(0, 0), cycle_record(1, 0), cycle_record(0, 0)];
+    let idle = "2 0000000000000001 00000000 0000000000000000\n\n";
+    let printed = [began, "1 refused 11\n", idle, "3 refused 11\n", none].concat();
+    b.check("an empty one between refused cycles", print(&trace) == printed.as_bytes());
+    let notrun = "passed 0 failed 0 notrun 1\n";
+    b.prints("chart A, none after a start", &[start_record(7)], &[began, notrun].concat());
+    let trace = [start_record(7), cycle_record(6, 1), cycle_record(60_008, 1)];
+    let printed = [began, "1 refused 11\n2 refused 11\n", notrun].concat();
+    b.prints("chart A, none after a refused cycle", &trace, &printed);
+    let moves = [transition(1, 4, 0, 0, 0), transition(2, 4, 0, 0, 0)].concat();
+    let file = [step(1), step(1), step(0), moves, end()].concat();
+    let trace = [start_record(0), cycle_record(1, 0), cycle_record(2, 0)].concat();
+    let lines = [
+        "0 0000000000000003 00000000 0000000000000000\n",
+        "1 0000000000000006 00000000 0000000000000001\n",
+        "2 0000000000000006 00000000 0000000000000000\n15\n",
+        none,
+    ];
+    b.check("none if one is taken", bench_run(Some(&file), &trace) == lines.concat().as_bytes());
 }
 
 // Row 16; "A chart file that can't be opened counts as empty; of a longer one the first 65,536
@@ -2985,15 +3508,16 @@ fn check_printed_refusals(b: &mut Bench) {
     b.check("long file", bench_run(Some(&long), &[]) == b"refused chart 10\n");
 }
 
-// Row 16: "begins at byte 65,528 or later"; 8 + 12 * 5,460 = 65,528
+// Row 16: "begins at byte 65,528 or later"; 8 + 12 * 5,460 = 65,528; request (vi): "... when an
+// accepted cycle takes nothing, prints a second line" (each of these takes nothing)
 fn check_trace_length(b: &mut Bench) {
     let most = [start_record(0), cycle_record(0, 0).repeat(5460)].concat();
     b.check("longest trace", most.len() == 65_528);
     let text = String::from_utf8(bench_run(Some(&chart_a()), &most)).unwrap_or_default();
-    b.check("longest trace, lines", text.lines().count() == 5462);
+    b.check("longest trace, lines", text.lines().count() == 1 + 2 * 5460 + 1);
     b.check("longest trace, tally", text.ends_with("\npassed 0 failed 0 notrun 1\n"));
     let more = [most, cycle_record(0, 0)].concat();
     let text = String::from_utf8(bench_run(Some(&chart_a()), &more)).unwrap_or_default();
-    let last = "\n5460 0000000000000001 00000000 0000000000000000\nrefused trace 16\n";
-    b.check("one record more", text.lines().count() == 5462 && text.ends_with(last));
+    let last = "\n5460 0000000000000001 00000000 0000000000000000\n31\nrefused trace 16\n";
+    b.check("one record more", text.lines().count() == 10_922 && text.ends_with(last));
 }

@@ -18,8 +18,10 @@ def cycle(clock, inputs=0):
     return record(16, struct.pack("<II", clock, inputs))
 
 
-def line(number, active, activity, taken=()):
-    return f"{number} {members(active):016x} {members(activity):08x} {members(taken):016x}"
+def line(number, active, activity, taken=(), why=None):
+    """A call's line, and behind one that takes nothing its second, why each transition waits (document 02, request vi)."""
+    first = f"{number} {members(active):016x} {members(activity):08x} {members(taken):016x}"
+    return first if why is None else f"{first}\n{why}"
 
 
 def trace(*calls):
@@ -44,17 +46,17 @@ def mixer(first, *rest):
 SET_MIXER = mixer(block(0, 4, S), block(2, 4, R), case(1, 4, 1), case(2, 2, 0), case(0, 36, 1))
 SOURCES = [
     ("000, mixer with S and R", SET_MIXER, trace(0, (100, {0, 1}), (200, {0, 1, 4}), (300, {0, 2, 4}), (400, {2, 4}), (500, {0, 1})), [
-        line(0, {0}, {4}), line(1, {0}, {4}), line(2, {1}, {0, 4}, {0}), line(3, {1}, {4}), line(4, {2}, {1, 2, 3}, {1}),
-        line(5, {0}, {4}, {3}), "passed 3 failed 0 notrun 0"]),
+        line(0, {0}, {4}), line(1, {0}, {4}, why="3111"), line(2, {1}, {0, 4}, {0}), line(3, {1}, {4}, why="1331"),
+        line(4, {2}, {1, 2, 3}, {1}), line(5, {0}, {4}, {3}), "passed 3 failed 0 notrun 0"]),
     # both reasons to stop the pump at once: the lower number is taken, its rival not
     ("000, mixer, T1 empty and T2 full", SET_MIXER, trace(0, (100, {0, 4}), (200, {2, 3})), [
         line(0, {0}, {4}), line(1, {1}, {0, 4}, {0}), line(2, {2}, {1, 2, 3}, {1}), "passed 1 failed 1 notrun 1"]),
     # chapter 5: the mixer delayed or limited to 100 ms, by the counter of its step; outputs have no memory here
     ("000, mixer with D 100", mixer(block(0, 4, D, 100)), trace(0, (99, {}), (100, {}), (150, {0, 4}), (160, {})), [
-        line(0, {0}, {}), line(1, {0}, {}), line(2, {0}, {4}), line(3, {1}, {0}, {0}), line(4, {2}, {1, 2, 3}, {1}),
-        "passed 0 failed 0 notrun 0"]),
+        line(0, {0}, {}), line(1, {0}, {}, why="3111"), line(2, {0}, {4}, why="3111"), line(3, {1}, {0}, {0}),
+        line(4, {2}, {1, 2, 3}, {1}), "passed 0 failed 0 notrun 0"]),
     ("000, mixer with L 100", mixer(block(0, 4, L, 100)), trace(0, (99, {}), (100, {}), (150, {0, 4})), [
-        line(0, {0}, {4}), line(1, {0}, {4}), line(2, {0}, {}), line(3, {1}, {0}, {0}), "passed 0 failed 0 notrun 0"]),
+        line(0, {0}, {4}), line(1, {0}, {4}, why="3111"), line(2, {0}, {}, why="3111"), line(3, {1}, {0}, {0}), "passed 0 failed 0 notrun 0"]),
 ]
 
 # Source 000, chapter 6: Start, Drain_Tank1, Drain_Tank2, Drain_Tank3, Ready in a line. Actions 0 mixer 2 (S, R in the last step), 1 mixer 1 (SL one
@@ -71,9 +73,10 @@ PLANT = (
 # minute by minute: mixer 1 stops after 60 minutes (call 61), mixer 3 starts after 30 (call 92); only a reset ends either latch
 MINUTES = [(1_000 + 60_000 * k, set()) for k in range(1, 61)] + [(3_601_010, {1})] + [(3_601_010 + 60_000 * k, set()) for k in range(1, 31)]
 PLANT_LINES = (
-    [line(0, {0}, {0}), line(1, {1}, {0, 1, 3, 4, 5}, {0})] + [line(k, {1}, {0, 1}) for k in range(2, 61)] + [line(61, {1}, {0})]
-    + [line(62, {2}, {0, 5, 6, 7, 8}, {1})] + [line(k, {2}, {0}) for k in range(63, 92)] + [line(92, {2}, {0, 2})]
-    + [line(93, {3}, {0, 2, 4, 7, 9, 10, 11, 12, 13}, {2}), line(94, {3}, {0, 2}), line(95, {4}, {10, 14, 15, 16}, {3}), line(96, {4}, {})]
+    [line(0, {0}, {0}), line(1, {1}, {0, 1, 3, 4, 5}, {0})] + [line(k, {1}, {0, 1}, why="1311") for k in range(2, 61)]
+    + [line(61, {1}, {0}, why="1311"), line(62, {2}, {0, 5, 6, 7, 8}, {1})] + [line(k, {2}, {0}, why="1131") for k in range(63, 92)]
+    + [line(92, {2}, {0, 2}, why="1131"), line(93, {3}, {0, 2, 4, 7, 9, 10, 11, 12, 13}, {2}), line(94, {3}, {0, 2}, why="1113")]
+    + [line(95, {4}, {10, 14, 15, 16}, {3}), line(96, {4}, {}, why="1111")]
 )
 SOURCES.append(("000, chapter 6", PLANT,
                 trace(0, (1_000, {0}), *MINUTES, (5_401_020, {2}), (5_401_030, {}), (5_401_040, {3}), (5_401_050, {})),
@@ -90,12 +93,12 @@ PRESS = (
 SOURCES.append(("004, press", PRESS, trace(
     0, (100, {0}), (200, {0, 1}), (5_199, {0, 1}), (5_200, {0, 1}), (7_199, {}), (7_250, {}), (7_300, {0, 1}), (7_400, {1}), (7_500, {0, 1}),
     (12_500, {})), [
-        line(0, {0}, {1}), line(1, {0}, {}), line(2, {1}, {0}, {0}), line(3, {1}, {}), line(4, {2}, {2}, {1}), line(5, {2}, {}),
-        line(6, {0}, {1}, {4}), line(7, {1}, {0}, {0}), line(8, {0}, {1}, {2}), line(9, {1}, {0}, {0}), line(10, {0}, {1}, {2}),
+        line(0, {0}, {1}), line(1, {0}, {}, why="31111"), line(2, {1}, {0}, {0}), line(3, {1}, {}, why="14331"), line(4, {2}, {2}, {1}),
+        line(5, {2}, {}, why="11114"), line(6, {0}, {1}, {4}), line(7, {1}, {0}, {0}), line(8, {0}, {1}, {2}), line(9, {1}, {0}, {0}), line(10, {0}, {1}, {2}),
         "passed 2 failed 1 notrun 0"]))
 
 # Source 004, programs 3.1 and 3.2: two lamps that alternate every 30 s. No reading equals the half minute: a wait is reached, not met.
 LAMPS = (step(1) + step(0) + action(0, 1) + action(1, 1) + transition([0], [1], wait=30_000) + transition([1], [0], wait=30_000)
          + block(0, 0, N) + block(1, 1, N) + END)
 SOURCES.append(("004, two lamps", LAMPS, trace(0, (29_999, {}), (30_114, {}), (59_932, {}), (60_246, {})), [
-    line(0, {0}, {0}), line(1, {0}, {0}), line(2, {1}, {1}, {0}), line(3, {1}, {1}), line(4, {0}, {0}, {1}), "passed 0 failed 0 notrun 0"]))
+    line(0, {0}, {0}), line(1, {0}, {0}, why="41"), line(2, {1}, {1}, {0}), line(3, {1}, {1}, why="14"), line(4, {0}, {0}, {1}), "passed 0 failed 0 notrun 0"]))
