@@ -377,6 +377,38 @@ static inline struct moves choose(const struct tw_chart *c, const struct tw_run 
 	return m;
 }
 
+/* Request (vi): why transition t is not taken after these moves, the first that speaks against it. */
+static inline enum tw_reason reason(const struct tw_chart *c, const struct tw_run *r, uint64_t signals, struct moves m, size_t t)
+{
+	uint64_t sources = c->sources[t], targets = c->targets[t];
+	if (sources & ~r->active)
+		return TW_NOT_ACTIVE;
+	if (sources & m.left)
+		return TW_USED;
+	if ((c->on[t] & ~signals) | (c->off[t] & signals))
+		return TW_SIGNAL;
+	if (!ripe(r->counters, sources, c->wait[t]))
+		return TW_WAIT;
+	if (targets & r->active)
+		return TW_OCCUPIED;
+	return targets & m.entered ? TW_CLAIMED : TW_TAKEN;
+}
+
+/* The same choice with the reasons. */
+static inline struct moves explain(const struct tw_chart *c, const struct tw_run *r, uint64_t signals, uint8_t *reasons)
+{
+	struct moves m = { 0, 0, 0 };
+	for (size_t t = 0; t < c->transitions; t++) {
+		reasons[t] = reason(c, r, signals, m, t);
+		if (reasons[t] != TW_TAKEN)
+			continue;
+		m.taken |= BIT(t);
+		m.left |= c->sources[t];
+		m.entered |= c->targets[t];
+	}
+	return m;
+}
+
 static void mark(const struct tw_chart *c, struct tw_run *r, uint64_t left, uint64_t signals)
 {
 	for (size_t i = 0; i < c->cases; i++) {
@@ -453,8 +485,9 @@ static enum tw_code ready_code(const struct tw_chart *c, const struct tw_run *r,
 	return belongs(c, r) ? TW_ACCEPTED : TW_OTHER_RUN;
 }
 
-/* A cycle of a chart and a run that passed those tests: 11, then paragraphs 1 to 6. */
-static inline enum tw_code advance(const struct tw_chart *c, struct tw_run *r, uint32_t clock, uint32_t inputs, int32_t *outputs, uint64_t *taken)
+/* A cycle of a chart and a run that passed those tests: 11, then paragraphs 1 to 6; with no reasons for a null. */
+static inline enum tw_code advance(const struct tw_chart *c, struct tw_run *r, uint32_t clock, uint32_t inputs, int32_t *outputs, uint64_t *taken,
+	uint8_t *reasons)
 {
 	uint32_t elapsed = clock - r->clock;
 	if (elapsed > TW_LATEST)
@@ -462,7 +495,7 @@ static inline enum tw_code advance(const struct tw_chart *c, struct tw_run *r, u
 	grow(r->counters, r->active, elapsed);
 	grow(r->timers, r->latched, elapsed);
 	uint64_t signals = inputs | r->activity << 32;
-	struct moves m = choose(c, r, signals);
+	struct moves m = reasons ? explain(c, r, signals, reasons) : choose(c, r, signals);
 	r->active = (r->active & ~m.left) | m.entered;
 	clear(r->counters, m.left | m.entered);
 	if (m.left)
@@ -473,13 +506,15 @@ static inline enum tw_code advance(const struct tw_chart *c, struct tw_run *r, u
 	return TW_ACCEPTED;
 }
 
-enum tw_code c_cycle(const struct tw_chart *c, struct tw_run *r, uint32_t clock, uint32_t inputs, int32_t *outputs, size_t lent, uint64_t *taken)
+enum tw_code c_cycle(const struct tw_chart *c, struct tw_run *r, uint32_t clock, uint32_t inputs, int32_t *outputs, size_t lent, uint64_t *taken,
+	uint8_t reasons[TW_TRANSITIONS])
 {
 	*taken = 0;
+	memset(reasons, 0, TW_TRANSITIONS);
 	enum tw_code code = ready_code(c, r, lent);
 	if (code)
 		return code;
-	return advance(c, r, clock, inputs, outputs, taken);
+	return advance(c, r, clock, inputs, outputs, taken, reasons);
 }
 
 enum tw_code c_shift(const struct tw_chart *c, struct tw_run *r, const uint32_t *clocks, size_t nclocks, const uint32_t *inputs, size_t ninputs,
@@ -493,7 +528,7 @@ enum tw_code c_shift(const struct tw_chart *c, struct tw_run *r, const uint32_t 
 	if (nclocks != ninputs || nclocks != nwords || nclocks > TW_SHIFT)
 		return TW_UNEVEN_LISTS;
 	for (size_t k = 0; k < nclocks; k++) {
-		code = advance(c, r, clocks[k], inputs[k], outputs, &taken);
+		code = advance(c, r, clocks[k], inputs[k], outputs, &taken, NULL);
 		if (code)
 			return code;
 		words[k] = r->activity;

@@ -258,7 +258,7 @@ struct engine {
 	enum tw_code (*test)(const struct tw_chart *);
 	enum tw_code (*write)(const struct tw_chart *, uint8_t *, size_t, size_t *);
 	enum tw_code (*start)(const struct tw_chart *, struct tw_run *, uint32_t, int32_t *, size_t);
-	enum tw_code (*cycle)(const struct tw_chart *, struct tw_run *, uint32_t, uint32_t, int32_t *, size_t, uint64_t *);
+	enum tw_code (*cycle)(const struct tw_chart *, struct tw_run *, uint32_t, uint32_t, int32_t *, size_t, uint64_t *, uint8_t *);
 	enum tw_code (*shift)(const struct tw_chart *, struct tw_run *, const uint32_t *, size_t, const uint32_t *, size_t, uint64_t *, size_t,
 		int32_t *, size_t, size_t *);
 };
@@ -275,6 +275,7 @@ struct bench {
 	int32_t outputs[TW_OUTPUTS + 4];
 	uint64_t activities[ROOM + 1];
 	uint8_t file[8192];
+	uint8_t reasons[TW_TRANSITIONS];
 };
 
 static void blank(struct bench *b)
@@ -298,7 +299,8 @@ static void read_and_start(const struct engine *e, const struct file *f, struct 
 static void make_cycles(const struct engine *e, uint32_t n, struct bench *b)
 {
 	for (uint32_t i = 0; i < n; i++) {
-		enum tw_code code = e->cycle(&b->chart, &b->run, clocks[i % ROOM], inputs[i % ROOM], b->outputs, TW_OUTPUTS + 4, &b->taken);
+		enum tw_code code = e->cycle(&b->chart, &b->run, clocks[i % ROOM], inputs[i % ROOM], b->outputs, TW_OUTPUTS + 4, &b->taken,
+			b->reasons);
 		b->sum += code;
 		b->accepted += code == TW_ACCEPTED;
 	}
