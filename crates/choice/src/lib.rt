@@ -36,7 +36,7 @@ fn is_ripe(wait: u32, sources: u64, counts: &[u32; 64]) -> bool
     true
 }
 
-// All tests but the wait's, which is the one that needs a loop.
+// All tests but the wait's, which is the one that needs a loop; of most transitions the first tells.
 fn is_ready(
     sources: u64,
     targets: u64,
@@ -48,8 +48,10 @@ fn is_ready(
 ) -> bool
     ensures { λ r. ⌜ r ≡ (Within sources active && Apart sources (choice .left) && Within on signals && Apart off signals && Apart targets active && Apart targets (choice .claimed)) ⌝ }
 {
-    sets::is_within(sources, active)
-        & sets::is_apart(sources, choice.left)
+    if !sets::is_within(sources, active) {
+        return false;
+    }
+    sets::is_apart(sources, choice.left)
         & sets::is_within(on, signals)
         & sets::is_apart(off, signals)
         & sets::is_apart(targets, active)
