@@ -360,23 +360,6 @@ struct moves {
 	uint64_t taken, left, entered;
 };
 
-static inline struct moves choose(const struct tw_chart *c, const struct tw_run *r, uint64_t signals)
-{
-	struct moves m = { 0, 0, 0 };
-	uint64_t active = r->active;
-	for (size_t t = 0; t < c->transitions; t++) {
-		uint64_t sources = c->sources[t], targets = c->targets[t];
-		if ((sources & (~active | m.left)) | (targets & (active | m.entered)) | (c->on[t] & ~signals) | (c->off[t] & signals))
-			continue;
-		if (!ripe(r->counters, sources, c->wait[t]))
-			continue;
-		m.taken |= BIT(t);
-		m.left |= sources;
-		m.entered |= targets;
-	}
-	return m;
-}
-
 /* Request (vi): why transition t is not taken after these moves, the first that speaks against it. */
 static inline enum tw_reason reason(const struct tw_chart *c, const struct tw_run *r, uint64_t signals, struct moves m, size_t t)
 {
@@ -394,13 +377,15 @@ static inline enum tw_reason reason(const struct tw_chart *c, const struct tw_ru
 	return targets & m.entered ? TW_CLAIMED : TW_TAKEN;
 }
 
-/* The same choice with the reasons. */
-static inline struct moves explain(const struct tw_chart *c, const struct tw_run *r, uint64_t signals, uint8_t *reasons)
+/* The transitions in number order, and why each is not taken; no reasons for a null. */
+static inline struct moves choose(const struct tw_chart *c, const struct tw_run *r, uint64_t signals, uint8_t *reasons)
 {
 	struct moves m = { 0, 0, 0 };
 	for (size_t t = 0; t < c->transitions; t++) {
-		reasons[t] = reason(c, r, signals, m, t);
-		if (reasons[t] != TW_TAKEN)
+		enum tw_reason why = reason(c, r, signals, m, t);
+		if (reasons)
+			reasons[t] = why;
+		if (why != TW_TAKEN)
 			continue;
 		m.taken |= BIT(t);
 		m.left |= c->sources[t];
@@ -495,7 +480,7 @@ static inline enum tw_code advance(const struct tw_chart *c, struct tw_run *r, u
 	grow(r->counters, r->active, elapsed);
 	grow(r->timers, r->latched, elapsed);
 	uint64_t signals = inputs | r->activity << 32;
-	struct moves m = reasons ? explain(c, r, signals, reasons) : choose(c, r, signals);
+	struct moves m = choose(c, r, signals, reasons);
 	r->active = (r->active & ~m.left) | m.entered;
 	clear(r->counters, m.left | m.entered);
 	if (m.left)
