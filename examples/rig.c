@@ -40,7 +40,7 @@ static void cycle(uint32_t clock, uint32_t inputs)
 	if (accepted("cycle", tw_cycle(&chart, &run, clock, inputs, outputs, TW_OUTPUTS, &taken, reasons))) {
 		printf("cycle: transitions taken 0x%" PRIx64 "\n", taken);
 		for (size_t t = 0; taken == 0 && t < chart.transitions; t++)
-			printf("  transition %zu waits for %s\n", t, tw_why((enum tw_reason)reasons[t]));
+			printf("  transition %zu waits: %s\n", t, tw_why((enum tw_reason)reasons[t]));
 	}
 	print_state();
 }
