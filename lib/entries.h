@@ -1,4 +1,4 @@
-/* The proved entries of crates/engine, as C sees them: a slice is a pointer and a length, a lent array or number a pointer. They answer the
+/* The proved entries of crates/engine and crates/desk, as C sees them: a slice is a pointer and a length, a lent array or number a pointer. They answer the
    number of refusal, as include/tolwaziho.h says of the call of the same name. Nobody but tolwaziho.c calls them. */
 #ifndef TOLWAZIHO_ENTRIES_H
 #define TOLWAZIHO_ENTRIES_H

@@ -1,16 +1,11 @@
--- Two answers that one statement allows are equal, with all that they leave, for each entry. Reading, the held test, writing, the tally and the weighing
--- answer by the equations of their parts, which say it.
-use Prim.Native.Nat.{ℕ}
+-- Two answers that one statement allows are equal, with all that they leave, for each entry.
 use mathlib.Core.List.{List}
-use mathlib.Core.Path.{_≡_, sym, ap, _∙_}
+use mathlib.Core.Path.{_≡_}
 use lib.IntN.{ℤ}
 use Rattle.sets.proofs.Unique.{one-answer}
-use Rattle.records.specs.declared.Found.{Found}
-use Rattle.records.proofs.Unique.{record-from-unique}
 use Rattle.cycle.specs.declared.cycling.Cycled.{Cycled}
 use Rattle.shift.specs.Shifting.{Done}
-use Rattle.engine.specs.Lent.{Left, left, ShiftLeft, shiftLeft, toldOf, Tells}
-use Rattle.engine.specs.declared.filing.Told.{Told}
+use Rattle.engine.specs.Lent.{Left, left, ShiftLeft, shiftLeft}
 
 -- a start, a cycle, and one by the lent run
 pub left-unique : (o : Cycled × List ℤ) (r q : Left) → r ≡ left o → q ≡ left o → r ≡ q
@@ -18,16 +13,3 @@ left-unique o r q = one-answer
 
 pub shift-left-unique : (o : Done) (r q : ShiftLeft) → r ≡ shiftLeft o → q ≡ shiftLeft o → r ≡ q
 shift-left-unique o r q = one-answer
-
--- what is told of a record, and where the next question goes
-abbrev Spelled : Type 0
-Spelled = Told × ℕ × ℕ
-
-abbrev tellsOf : Spelled → List ℕ → ℕ → ℕ → Type 0
-tellsOf (t, next, kept) s at before = Tells (t .code) (t .kind) (t .place) (t .length) next kept s at before
-
-pub next-record-unique : (s : List ℕ) (at before : ℕ) (r q : Spelled) → tellsOf r s at before → tellsOf q s at before → r ≡ q
-next-record-unique s at before r q e f =
-    let same = record-from-unique s at before _ _ (e .finds) (f .finds) in
-    let told = e .told ∙ ap (λ (d : Found). toldOf (d .answer)) same ∙ sym (f .told) in
-    λ i. (told i, same i .at, same i .before)

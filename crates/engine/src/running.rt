@@ -5,7 +5,8 @@ ghost use Rattle.run.specs.Apart.{runOf};
 ghost use Rattle.cycle.specs.Cycling.{noReasons, cycleOn};
 ghost use Rattle.cycle.specs.Starting.{startOn};
 ghost use Rattle.shift.specs.Shifting.{shiftOf};
-ghost use Rattle.engine.specs.Lent.{wordsAt, left, shiftLeft};
+ghost use Rattle.desk.specs.Lent.{wordsAt};
+ghost use Rattle.engine.specs.Lent.{left, shiftLeft};
 use chart::Chart;
 use run::Words;
 

@@ -4,7 +4,7 @@ use Rattle.chart.specs.Chart.{chartOf}
 use Rattle.chart.specs.declared.chart.Chart.{Chart}
 use Rattle.run.specs.Apart.{runOf}
 use Rattle.run.specs.declared.run.Run.{Run}
-use Rattle.engine.specs.Lent.{wordsAt}
+use Rattle.desk.specs.Lent.{wordsAt}
 use mathlib.Core.Path.{refl, ap, _∙_}
 use Rattle.cycle.specs.Explaining.{keptIf}
 use Rattle.engine.proofs.running.Laws.{cycle-left}

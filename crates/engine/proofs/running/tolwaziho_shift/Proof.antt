@@ -4,7 +4,7 @@ use Rattle.chart.specs.Chart.{chartOf}
 use Rattle.chart.specs.declared.chart.Chart.{Chart}
 use Rattle.run.specs.Apart.{runOf}
 use Rattle.run.specs.declared.run.Run.{Run}
-use Rattle.engine.specs.Lent.{wordsAt}
+use Rattle.desk.specs.Lent.{wordsAt}
 use mathlib.Core.Path.{sym}
 use lib.Seq.{length-take-le}
 use Rattle.shift.proofs.shifting.Laws.{all-taken, code-told}

@@ -4,7 +4,7 @@ ghost use Rattle.chart.specs.Chart.{chartOf};
 ghost use Rattle.run.specs.Apart.{runOf};
 ghost use Rattle.tally.specs.Tallying.{tallyOf};
 ghost use Rattle.tally.specs.Weighing.{weighOf};
-ghost use Rattle.engine.specs.Lent.{wordsAt, talliedAs, weighedAs};
+ghost use Rattle.desk.specs.Lent.{wordsAt, talliedAs, weighedAs};
 use run::Words;
 
 // The tally: the number, and the cases passed, failed and not run.

@@ -1,7 +1,7 @@
 -- Each case of the answer.
 use borrow.Author.Needs.{needs}
-use Rattle.engine.proofs.filing.spelled.Statement.{statement}
-use Rattle.engine.proofs.filing.spelled.Tie as tie
+use Rattle.desk.proofs.filing.spelled.Statement.{statement}
+use Rattle.desk.proofs.filing.spelled.Tie as tie
 
 enum-known-answer : tie.Need-enum-known-answer
 enum-known-answer c = search needs

@@ -7,7 +7,7 @@ ghost use Rattle.chart.specs.Held.{chartCode};
 ghost use Rattle.reader.specs.Reading.{readChart};
 ghost use Rattle.writer.specs.Writing.{writeChart};
 ghost use Rattle.writer.specs.declared.writing.Writing.{Writing};
-ghost use Rattle.engine.specs.Lent.{toldOf, Tells, readAs, writtenAs};
+ghost use Rattle.desk.specs.Lent.{toldOf, Tells, readAs, writtenAs};
 use reader::Next;
 
 // The record step's answer, spelled out: a record's kind, place and length; zeros for the end; a refusal's number and place.
