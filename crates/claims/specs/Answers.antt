@@ -25,9 +25,10 @@ use Rattle.reader.proofs.reading.Accepted.{read-accepted, read-refused}
 use Rattle.run.specs.Run.{noRun}
 use Rattle.run.specs.Belongs.{belongs}
 use Rattle.run.specs.declared.run.Run.{Run}
-use Rattle.cycle.specs.Time.{elapsed}
-use Rattle.cycle.specs.Outputs.{outputsOf}
-use Rattle.cycle.specs.Cycling.{noReasons, startCode, readyCode, lateCode, cycleCode, startOf, cycleOf, outputsAfter}
+use Rattle.passes.specs.Time.{elapsed}
+use Rattle.passes.specs.Outputs.{outputsOf}
+use Rattle.cycle.specs.Cycling.{startCode, readyCode, lateCode, cycleCode, startOf, cycleOf, outputsAfter}
+use Rattle.passes.specs.Explaining.{noReasons}
 use Rattle.cycle.specs.declared.cycling.Cycled.{Cycled}
 use Rattle.cycle.proofs.cycling.Kept.{start-refused, cycle-refused}
 use Rattle.cycle.proofs.cycling.Laws.{few, enough, stops, goes-on, too-late, in-time}

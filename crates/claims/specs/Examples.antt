@@ -23,9 +23,9 @@ use Rattle.reader.proofs.reading.Examples.{chartA}
 use Rattle.choice.specs.Choice.{reason, chosen, reasonsOf}
 use Rattle.acting.specs.Acting.{request, ripens, asked, acted}
 use Rattle.run.specs.declared.run.Run.{Run}
-use Rattle.cycle.specs.Time.{elapsed}
-use Rattle.cycle.specs.Moving.{marksOf}
-use Rattle.cycle.specs.Outputs.{first, outputsOf}
+use Rattle.passes.specs.Time.{elapsed}
+use Rattle.passes.specs.Moving.{marksOf}
+use Rattle.passes.specs.Outputs.{first, outputsOf}
 use Rattle.cycle.specs.Cycling.{startOf, cycleOf, outputsAfter}
 use Rattle.cycle.specs.declared.cycling.Cycled.{Cycled}
 use Rattle.cycle.specs.Calling.{singly}

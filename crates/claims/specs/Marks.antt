@@ -20,8 +20,8 @@ use Rattle.chart.proofs.held.Sound.{sound}
 use Rattle.run.specs.Run.{noRun}
 use Rattle.run.specs.Belongs.{belongs}
 use Rattle.run.specs.declared.run.Run.{Run}
-use Rattle.cycle.specs.Time.{elapsed, grownCounts}
-use Rattle.cycle.specs.Moving.{signalsOf, asExpected, marksOf}
+use Rattle.passes.specs.Time.{elapsed, grownCounts}
+use Rattle.passes.specs.Moving.{signalsOf, asExpected, marksOf}
 use Rattle.cycle.specs.Cycling.{refused, startCode, cycleCode, started, startOf, choiceOf, cycled}
 use Rattle.cycle.specs.declared.cycling.Cycled.{Cycled}
 use Rattle.cycle.proofs.cycling.Kept.{cycle-keeps}

@@ -16,7 +16,7 @@ use Rattle.sets.proofs.Counts.{counted-same}
 use Rattle.choice.specs.Choice.{reason, takes, choosingAt, noneTaken, chosen}
 use Rattle.choice.specs.declared.Choice.{Choice}
 use Rattle.choice.proofs.Laws.{Free, taken-free}
-use Rattle.cycle.specs.Choosing.{movedTo}
+use Rattle.passes.specs.Choosing.{movedTo}
 use Rattle.claims.specs.Runs.{one}
 
 -- how many of the first n transitions in the set s have step k among those of the table l

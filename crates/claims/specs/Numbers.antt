@@ -25,11 +25,12 @@ use Rattle.reader.specs.declared.reading.Reading.{Reading}
 use Rattle.run.specs.Run.{noRun}
 use Rattle.run.specs.Belongs.{belongs}
 use Rattle.run.specs.declared.run.Run.{Run}
-use Rattle.cycle.specs.Time.{elapsed}
-use Rattle.cycle.specs.Outputs.{outputsOf}
-use Rattle.cycle.specs.Cycling.{noReasons, refused as turned-away, startCode, readyCode, lateCode, cycleCode, started, startOf, cycled, cycleOf, outputsAfter}
+use Rattle.passes.specs.Time.{elapsed}
+use Rattle.passes.specs.Outputs.{outputsOf}
+use Rattle.cycle.specs.Cycling.{refused as turned-away, startCode, readyCode, lateCode, cycleCode, started, startOf, cycled, cycleOf, outputsAfter}
+use Rattle.passes.specs.Explaining.{noReasons}
 use Rattle.cycle.specs.declared.cycling.Cycled.{Cycled}
-use Rattle.cycle.proofs.outputs.Laws.{outputs-length}
+use Rattle.passes.proofs.outputs.Laws.{outputs-length}
 use Rattle.trace.specs.Tracing.{isOver, recordFits, traceNumber}
 use Rattle.tally.specs.Tallying.{countsOf, refused as uncounted, tallyCode, tallyOf}
 use Rattle.tally.specs.Weighing.{balanced, unbalanced, unbalancedIn, weighCode, refused as unweighed, weighed, weighOf}

@@ -21,9 +21,10 @@ use Rattle.choice.specs.Choice.{ripe, reason, takes, choosingAt, noneTaken, cho
 use Rattle.choice.specs.declared.Choice.{Choice}
 use Rattle.choice.proofs.Laws.{taken-as-before, reason-most, reasons-at}
 use Rattle.run.specs.declared.run.Run.{Run}
-use Rattle.cycle.specs.Time.{elapsed, grownCounts}
-use Rattle.cycle.specs.Moving.{signalsOf}
-use Rattle.cycle.specs.Cycling.{noReasons, refused, cycleCode, choiceOf, cycled}
+use Rattle.passes.specs.Time.{elapsed, grownCounts}
+use Rattle.passes.specs.Moving.{signalsOf}
+use Rattle.cycle.specs.Cycling.{refused, cycleCode, choiceOf, cycled}
+use Rattle.passes.specs.Explaining.{noReasons}
 use Rattle.cycle.specs.declared.cycling.Cycled.{Cycled}
 use Rattle.cycle.proofs.cycling.Laws.{cycle-passed}
 use Rattle.claims.specs.Runs.{Call, answer}

@@ -25,7 +25,7 @@ use Rattle.chart.proofs.held.Each.{either, else-each}
 use Rattle.chart.proofs.held.Sound.{fits}
 use Rattle.run.specs.Belongs.{belongs}
 use Rattle.run.specs.declared.run.Run.{Run}
-use Rattle.cycle.specs.Outputs.{outputsOf}
+use Rattle.passes.specs.Outputs.{outputsOf}
 use Rattle.cycle.specs.Cycling.{readyCode, startOf, cycleOn, outputsAfter}
 use Rattle.cycle.specs.declared.cycling.Cycled.{Cycled}
 use Rattle.cycle.proofs.cycling.Laws.{passed as ready-passed}

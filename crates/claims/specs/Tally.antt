@@ -12,7 +12,7 @@ use Rattle.chart.specs.Held.{chartCode}
 use Rattle.chart.specs.declared.chart.Chart.{Chart}
 use Rattle.run.specs.declared.run.Run.{Run}
 use Rattle.cycle.specs.Cycling.{startOf}
-use Rattle.cycle.specs.Moving.{signalsOf, asExpected}
+use Rattle.passes.specs.Moving.{signalsOf, asExpected}
 use Rattle.cycle.specs.declared.cycling.Cycled.{Cycled}
 use Rattle.cycle.proofs.cycling.Kept.{start-belongs}
 use Rattle.tally.specs.Tallying.{isPassed, isFailed, isNotRun, countsOf, tallyOf}

@@ -25,10 +25,10 @@ use Rattle.reader.specs.declared.reading.Read.{Read}
 use Rattle.reader.specs.declared.reading.Reading.{Reading}
 use Rattle.reader.proofs.framing.Laws.{record-at-unique}
 use Rattle.reader.proofs.Unique.{from-unique, signed-unique, bits-of-unique, read-chart-unique, read-into-unique}
-use Rattle.choice.specs.Choice.{choosing, reasonsOf}
+use Rattle.choice.specs.Choice.{choosing, chosen, reasonsOf}
 use Rattle.choice.specs.declared.Choice.{Choice}
 use Rattle.choice.proofs.Unique.{choose-one-unique, explain-unique}
-use Rattle.acting.specs.Acting.{requestAt, putting, acted}
+use Rattle.acting.specs.Acting.{requestAt, putting, asked, acted}
 use Rattle.acting.specs.declared.Steps.{Steps}
 use Rattle.acting.specs.declared.Request.{Request}
 use Rattle.acting.specs.declared.Asked.{Asked}
@@ -42,15 +42,22 @@ use Rattle.run.specs.declared.run.StepCounter.{StepCounter}
 use Rattle.run.specs.declared.run.ActionTimer.{ActionTimer}
 use Rattle.run.specs.declared.run.Run.{Run}
 use Rattle.run.proofs.Unique.{parts-belong-unique, counter-longer-unique, timer-longer-unique, no-run-unique, words-of-unique, counts-of-unique, times-of-unique, run-of-unique}
-use Rattle.cycle.specs.Time.{elapsed, grownCounts}
-use Rattle.cycle.specs.Moving.{signalsOf}
-use Rattle.cycle.specs.Explaining.{keptIf}
+use Rattle.passes.specs.Rests.{rests}
+use Rattle.passes.specs.Time.{elapsed, grownCounts}
+use Rattle.passes.specs.Choosing.{stepsOf}
+use Rattle.passes.specs.Moving.{signalsOf, marksOf}
+use Rattle.passes.specs.Outputs.{written}
+use Rattle.passes.specs.Explaining.{keptIf}
+use Rattle.passes.specs.declared.moving.Marks.{Marks}
 use Rattle.cycle.specs.Cycling.{readyAfter, startOf, cycleOf, outputsAfter}
-use Rattle.cycle.specs.Starting.{begun, startOn}
+use Rattle.cycle.specs.Stepping.{allKept}
+use Rattle.calls.specs.Starting.{begun, startOn}
 use Rattle.cycle.specs.Calling.{InParts, inParts, callsOn}
 use Rattle.cycle.specs.declared.cycling.Cycled.{Cycled}
-use Rattle.cycle.specs.declared.starting.Started.{Started}
-use Rattle.cycle.proofs.Unique.{start-unique, cycle-unique, start-on-unique, ready-code-unique, cycles-on-unique, explain-unique as cycle-explain-unique, keep-if-unique, elapsed-unique}
+use Rattle.calls.specs.declared.starting.Started.{Started}
+use Rattle.passes.proofs.Unique.{elapsed-unique, choose-unique, steps-of-unique, signals-of-unique, marks-of-unique, ask-blocks-unique, write-outputs-unique, explain-unique as call-explain-unique, keep-if-unique}
+use Rattle.cycle.proofs.Unique.{ready-code-unique, settle-unique, cycles-on-unique}
+use Rattle.calls.proofs.Unique.{start-unique, cycle-unique, start-on-unique}
 use Rattle.shift.specs.Shifting.{Done, listsCode, clocksTaken, shiftOf}
 use Rattle.shift.proofs.Unique.{lists-code-unique, clocks-taken-unique, shift-unique}
 use Rattle.trace.specs.Tracing.{callAt, numberOf, traceNumber}
@@ -154,21 +161,39 @@ pub record RunUnique : Type 0 where
   pub times-of : (timers : List ActionTimer) → One (λ (r : List ℕ). (r ≡ timesOf timers) × (length timers ≡ 32))
   pub run-of : (words : Words) (counts times : List ℕ) → One (λ (r : Run). r ≡ runOf words counts times)
 
--- cycle/src: calling, cycling, explaining, starting, time
+-- passes/src: asking, choosing, explaining, moving, outputs, time
+pub record PassesUnique : Type 0 where
+  pub choose : (n : ℕ) (sources targets on off wait counts : List ℕ) (active signals : ℕ)
+      → One (λ (r : Choice). r ≡ chosen (min n 64) sources targets on off wait counts active signals)
+  pub steps-of : (active : ℕ) (choice : Choice) → One (λ (r : Steps). r ≡ stepsOf active choice)
+  pub signals-of : (inputs activity : ℕ) → One (λ (r : ℕ). r ≡ signalsOf inputs activity)
+  pub marks-of : (n : ℕ) (step signal expected : List ℕ) (left signals : ℕ)
+      → One (λ (r : Marks). r ≡ marksOf (min n 64) (rests 64 step) (rests 64 signal) expected left signals)
+  pub ask-blocks : (n : ℕ) (blockstep blockaction qualifier duration counts times : List ℕ) (steps : Steps)
+      → One (λ (r : Asked). r ≡ asked (min n 256) (rests 64 blockstep) (rests 32 blockaction) qualifier duration counts times steps)
+  pub write-outputs : (outputs : List ℤ) (n : ℕ) (output : List ℕ) (value : List ℤ) (activity : ℕ)
+      → One (λ (exit : List ℤ). exit ≡ written (min n 32) (rests 32 output) value activity outputs)
+  pub explain : (n : ℕ) (sources targets on off wait : List ℕ) (words : Words) (counts : List ℕ) (clock inputs : ℕ)
+      → One (λ (exit : List ℕ). exit ≡ reasonsOf n sources targets on off wait (grownCounts (countersOf counts) (words .active) (elapsed (words .clock) clock)) (words .active) (signalsOf inputs (words .activity)))
+  pub keep-if : (code : ℕ) (reasons : List ℕ) → One (λ (exit : List ℕ). exit ≡ keptIf code reasons)
+  pub elapsed : (last new : ℕ) → One (λ (r : ℕ). r ≡ elapsed last new)
+
+-- cycle/src: calling, cycling, stepping
 pub record CycleUnique : Type 0 where
+  pub ready-code : (held steps actions cases : ℕ) (words : Words) (counts times : List ℕ) (outputs : ℕ)
+      → One (λ (r : ℕ). (r ≡ readyAfter held steps actions cases (runOf words counts times) outputs) × (length counts ≡ 64) × (length times ≡ 32))
+  pub settle : (outputs : List ℤ) (actions : ℕ) (output : List ℕ) (value : List ℤ) (blocks : ℕ) (blockstep blockaction qualifier duration counts times : List ℕ) (steps : Steps) (stored latched : ℕ)
+      → Both (λ (r : Acted) (exit : List ℤ). (r ≡ acted (asked (min blocks 256) (rests 64 blockstep) (rests 32 blockaction) qualifier duration counts times (allKept steps)) stored latched) × (exit ≡ written (min actions 32) (rests 32 output) value (r .activity) outputs))
+  pub cycles-on : (lent : Chart) (words : Words) (counts times clocks inputs activities : List ℕ) (outputs : List ℤ)
+      → One (λ (r : InParts). r ≡ inParts (callsOn lent (runOf words counts times) clocks inputs activities outputs))
+
+-- calls/src: cycling, starting
+pub record CallsUnique : Type 0 where
   pub start : (chart : Chart) (clock : ℕ) (outputs : List ℤ)
       → Both (λ (r : Cycled) (exit : List ℤ). (r ≡ startOf chart clock (length outputs)) × (exit ≡ outputsAfter chart r outputs))
   pub cycle : (chart : Chart) (run : Run) (clock inputs : ℕ) (outputs : List ℤ)
       → Both (λ (r : Cycled) (exit : List ℤ). (r ≡ cycleOf chart run clock inputs (length outputs)) × (exit ≡ outputsAfter chart r outputs))
   pub start-on : (lent : Chart) (clock : ℕ) (outputs : List ℤ) → Both (λ (r : Started) (exit : List ℤ). (begun r, exit) ≡ startOn lent clock outputs)
-  pub ready-code : (held steps actions cases : ℕ) (words : Words) (counts times : List ℕ) (outputs : ℕ)
-      → One (λ (r : ℕ). (r ≡ readyAfter held steps actions cases (runOf words counts times) outputs) × (length counts ≡ 64) × (length times ≡ 32))
-  pub cycles-on : (lent : Chart) (words : Words) (counts times clocks inputs activities : List ℕ) (outputs : List ℤ)
-      → One (λ (r : InParts). r ≡ inParts (callsOn lent (runOf words counts times) clocks inputs activities outputs))
-  pub explain : (n : ℕ) (sources targets on off wait : List ℕ) (words : Words) (counts : List ℕ) (clock inputs : ℕ)
-      → One (λ (exit : List ℕ). exit ≡ reasonsOf n sources targets on off wait (grownCounts (countersOf counts) (words .active) (elapsed (words .clock) clock)) (words .active) (signalsOf inputs (words .activity)))
-  pub keep-if : (code : ℕ) (reasons : List ℕ) → One (λ (exit : List ℕ). exit ≡ keptIf code reasons)
-  pub elapsed : (last new : ℕ) → One (λ (r : ℕ). r ≡ elapsed last new)
 
 -- shift/src: shifting
 pub record ShiftUnique : Type 0 where
@@ -206,7 +231,9 @@ pub record Unique : Type 0 where
   pub choice : ChoiceUnique
   pub acting : ActingUnique
   pub run : RunUnique
+  pub passes : PassesUnique
   pub cycle : CycleUnique
+  pub calls : CallsUnique
   pub shift : ShiftUnique
   pub trace : TraceUnique
   pub tally : TallyUnique
@@ -273,15 +300,28 @@ unique = record {
     times-of = λ timers r q a b. times-of-unique timers r q (a .0) (b .0);
     run-of = run-of-unique;
   };
+  passes = record {
+    elapsed = elapsed-unique;
+    choose = λ n. choose-unique (min n 64);
+    steps-of = steps-of-unique;
+    signals-of = signals-of-unique;
+    marks-of = λ n step signal. marks-of-unique (min n 64) (rests 64 step) (rests 64 signal);
+    ask-blocks = λ n blockstep blockaction. ask-blocks-unique (min n 256) (rests 64 blockstep) (rests 32 blockaction);
+    write-outputs = λ outputs n output value activity. write-outputs-unique (min n 32) (rests 32 output) value activity outputs;
+    explain = λ n sources targets on off wait words counts. call-explain-unique n sources targets on off wait counts words;
+    keep-if = keep-if-unique;
+  };
   cycle = record {
+    ready-code = λ held steps actions cases words counts times outputs r q a b. ready-code-unique held steps actions cases (runOf words counts times) outputs r q (a .0) (b .0);
+    settle = λ outputs actions output value blocks blockstep blockaction qualifier duration counts times steps stored latched r q f g a b.
+        settle-unique (acted (asked (min blocks 256) (rests 64 blockstep) (rests 32 blockaction) qualifier duration counts times (allKept steps)) stored latched)
+        (min actions 32) (rests 32 output) value r q outputs f g (a .0) (b .0) (a .1) (b .1);
+    cycles-on = λ lent words counts times. cycles-on-unique lent (runOf words counts times);
+  };
+  calls = record {
     start = λ chart clock outputs r q f g a b. start-unique chart clock r q outputs f g (a .0) (b .0) (a .1) (b .1);
     cycle = λ chart run clock inputs outputs r q f g a b. cycle-unique chart run clock inputs r q outputs f g (a .0) (b .0) (a .1) (b .1);
     start-on = start-on-unique;
-    ready-code = λ held steps actions cases words counts times outputs r q a b. ready-code-unique held steps actions cases (runOf words counts times) outputs r q (a .0) (b .0);
-    cycles-on = λ lent words counts times. cycles-on-unique lent (runOf words counts times);
-    explain = λ n sources targets on off wait words counts. cycle-explain-unique n sources targets on off wait counts words;
-    keep-if = keep-if-unique;
-    elapsed = elapsed-unique;
   };
   shift = record {
     lists-code = lists-code-unique;

@@ -1,11 +1,8 @@
 -- A chart as a cycle takes it that does not test it: each count no more than its table has, and each number by its rest, so that no table is
 -- looked into where it has nothing. A chart that passed its test is the same in every cycle (proofs/bounds/Sound.antt).
-use Prim.Native.Nat.{ℕ, _%_, min}
-use mathlib.Core.List.{List, map}
+use Prim.Native.Nat.{min}
+use Rattle.passes.specs.Rests.{rests}
 use Rattle.chart.specs.declared.chart.Chart.{Chart}
-
-abbrev pub rests : ℕ → List ℕ → List ℕ
-rests n l = map (λ x. x % n) l
 
 abbrev pub bounded : Chart → Chart
 bounded c = record {

@@ -19,16 +19,13 @@ use Rattle.acting.specs.declared.Acted.{Acted}
 use Rattle.run.specs.Run.{noRun}
 use Rattle.run.specs.Belongs.{belongsTo}
 use Rattle.run.specs.declared.run.Run.{Run}
-use Rattle.cycle.specs.Time.{elapsed, grownCounts, grownTimes}
-use Rattle.cycle.specs.Choosing.{stepsOf}
-use Rattle.cycle.specs.Moving.{settledCounters, settledTimers, signalsOf, marksOf}
-use Rattle.cycle.specs.Outputs.{outputsOf}
-use Rattle.cycle.specs.declared.moving.Marks.{Marks}
+use Rattle.passes.specs.Time.{elapsed, grownCounts, grownTimes}
+use Rattle.passes.specs.Choosing.{stepsOf}
+use Rattle.passes.specs.Moving.{settledCounters, settledTimers, signalsOf, marksOf}
+use Rattle.passes.specs.Outputs.{outputsOf}
+use Rattle.passes.specs.Explaining.{noReasons}
+use Rattle.passes.specs.declared.moving.Marks.{Marks}
 use Rattle.cycle.specs.declared.cycling.Cycled.{Cycled}
-
--- document 02, request (vi): "Reasons of a start, of a refused call .. are 0."
-abbrev pub noReasons : List ℕ
-noReasons = replicate 64 0
 
 abbrev pub refused : ℕ → Run → Cycled
 refused code run = record { code = code; taken = 0; reasons = noReasons; run = run }
@@ -96,6 +93,10 @@ choiceOf c r counts signals =
 abbrev pub reasonsIn : Chart → Run → List ℕ → ℕ → List ℕ
 reasonsIn c r counts signals =
     reasonsOf (c .transitions) (c .sources) (c .targets) (c .on) (c .off) (c .wait) counts (r .active) signals
+
+-- by the counters as they have grown and the signals of the call
+abbrev pub whyIn : Chart → Run → ℕ → ℕ → List ℕ
+whyIn c r clock inputs = reasonsIn c r (grownCounts (r .counters) (r .active) (elapsed (r .clock) clock)) (signalsOf inputs (r .activity))
 
 abbrev pub marksAt : Chart → ℕ → ℕ → Marks
 marksAt c left signals = marksOf (c .cases) (c .casestep) (c .signal) (c .expected) left signals

@@ -1,10 +1,4 @@
-pub mod Time
-pub mod Choosing
-pub mod Moving
-pub mod Outputs
 pub mod Bounds
 pub mod Cycling
-pub mod Explaining
-pub mod Starting
 pub mod Stepping
 pub mod Calling

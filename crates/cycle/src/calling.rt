@@ -6,7 +6,6 @@ ghost use Rattle.cycle.specs.Calling.{callsOn, inParts};
 use crate::codes::TOO_LATE;
 use crate::cycling;
 use crate::stepping;
-use crate::time;
 use run::Words;
 
 // What stopped the cycles, how many were accepted, the transitions that the last one took, and the run's words there.
@@ -94,7 +93,7 @@ pub fn cycles_on<'a>(
     let mut k = 0;
     while k < last {
         let clock = clocks[k];
-        if 60000 < time::elapsed(words.clock, clock) {
+        if 60000 < passes::elapsed(words.clock, clock) {
             return Went {
                 code: TOO_LATE,
                 accepted: k,

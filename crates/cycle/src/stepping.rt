@@ -1,21 +1,17 @@
 // One cycle where the run lies: its words go in and out by value, its counters and timers are lent and changed in place.
 ghost use mathlib.Core.Bool.{true};
 ghost use mathlib.Core.Path.{_≡_};
-ghost use mathlib.Core.List.{_++_};
 ghost use Prim.Native.Nat.{_≤_, min};
-ghost use lib.ListN.{length, drop};
+ghost use lib.ListN.{length};
 ghost use Rattle.acting.specs.Acting.{asked, acted};
 ghost use Rattle.chart.specs.Chart.{chartOf};
 ghost use Rattle.run.specs.Apart.{countersOf, timersOf, runOf};
 ghost use Rattle.run.specs.Belongs.{countersFit, timersFit};
-ghost use Rattle.cycle.specs.Outputs.{outputsOf};
-ghost use Rattle.cycle.specs.Bounds.{rests, bounded};
+ghost use Rattle.passes.specs.Outputs.{written};
+ghost use Rattle.cycle.specs.Bounds.{bounded};
+ghost use Rattle.passes.specs.Rests.{rests};
 ghost use Rattle.cycle.specs.Stepping.{allKept, movedOn};
-use crate::asking;
-use crate::choosing;
-use crate::moving;
-use crate::outputs;
-use crate::time;
+use crate::lying;
 use acting::Acted;
 use acting::Steps;
 use run::Words;
@@ -26,7 +22,7 @@ pub struct Stepped {
 }
 
 // Paragraphs 4 to 6, which start and cycle share. The counters are those of the steps as they are now: all of them count.
-pub(crate) fn settle<'a>(
+pub fn settle<'a>(
     outputs: &mut [i32],
     actions: usize,
     output: &'a [u8; 32],
@@ -42,8 +38,7 @@ pub(crate) fn settle<'a>(
     stored: u64,
     latched: u64,
 ) -> Acted
-    requires { ⌜ 32 ≤ length (now outputs) ⌝ }
-    ensures { λ r. ⌜ (r ≡ acted (asked (min blocks 256) (rests 64 (now (blockstep .entry))) (rests 32 (now (blockaction .entry))) (now (qualifier .entry)) (now (duration .entry)) (now (counts .entry)) (now (times .entry)) (allKept steps)) stored latched) × (now (outputs .exit) ≡ outputsOf (min actions 32) (rests 32 (now (output .entry))) (now (value .entry)) (r .activity) ++ drop 32 (now (outputs .entry))) ⌝ }
+    ensures { λ r. ⌜ (r ≡ acted (asked (min blocks 256) (rests 64 (now (blockstep .entry))) (rests 32 (now (blockaction .entry))) (now (qualifier .entry)) (now (duration .entry)) (now (counts .entry)) (now (times .entry)) (allKept steps)) stored latched) × (now (outputs .exit) ≡ written (min actions 32) (rests 32 (now (output .entry))) (now (value .entry)) (r .activity) (now (outputs .entry))) ⌝ }
 {
     let now = Steps {
         active: steps.active,
@@ -51,7 +46,7 @@ pub(crate) fn settle<'a>(
         left: steps.left,
         kept: u64::MAX,
     };
-    let asked = asking::ask_blocks(
+    let asked = passes::ask_blocks(
         blocks,
         blockstep,
         blockaction,
@@ -62,7 +57,7 @@ pub(crate) fn settle<'a>(
         now,
     );
     let acts = acting::act(asked, stored, latched);
-    outputs::write_outputs(outputs, actions, output, value, acts.activity);
+    passes::write_outputs(outputs, actions, output, value, acts.activity);
     acts
 }
 
@@ -98,11 +93,11 @@ pub(crate) fn step<'a>(
     requires { ⌜ (32 ≤ length (now outputs)) × (countersFit (countersOf (now counts)) (words .active) ≡ true) × (timersFit (timersOf (now times)) (words .latched) ≡ true) ⌝ }
     ensures { λ r. ⌜ ((r .taken, runOf (r .words) (now (counts .exit)) (now (times .exit)), now (outputs .exit)) ≡ movedOn (bounded (chartOf steps actions transitions blocks cases (now (initial .entry)) (now (output .entry)) (now (value .entry)) (now (sources .entry)) (now (targets .entry)) (now (on .entry)) (now (off .entry)) (now (wait .entry)) (now (blockstep .entry)) (now (blockaction .entry)) (now (qualifier .entry)) (now (duration .entry)) (now (casestep .entry)) (now (signal .entry)) (now (expected .entry)))) (runOf words (now (counts .entry)) (now (times .entry))) clock inputs (now (outputs .entry))) × (length (now (counts .exit)) ≡ 64) × (length (now (times .exit)) ≡ 32) ⌝ }
 {
-    let e = time::elapsed(words.clock, clock);
-    time::grow_counts(counts, words.active, e);
-    time::grow_times(times, words.latched, e);
-    let signals = moving::signals_of(inputs, words.activity);
-    let choice = choosing::choose(
+    let e = passes::elapsed(words.clock, clock);
+    lying::grow_counts(counts, words.active, e);
+    lying::grow_times(times, words.latched, e);
+    let signals = passes::signals_of(inputs, words.activity);
+    let choice = passes::choose(
         transitions,
         sources,
         targets,
@@ -113,9 +108,9 @@ pub(crate) fn step<'a>(
         words.active,
         signals,
     );
-    let moved = choosing::steps_of(words.active, choice);
-    moving::clear(counts, sets::without(words.active, moved.kept));
-    let marks = moving::marks_of(cases, casestep, signal, expected, choice.left, signals);
+    let moved = passes::steps_of(words.active, choice);
+    lying::clear(counts, sets::without(words.active, moved.kept));
+    let marks = passes::marks_of(cases, casestep, signal, expected, choice.left, signals);
     let acts = settle(
         outputs,
         actions,
@@ -133,7 +128,7 @@ pub(crate) fn step<'a>(
         words.latched,
     );
     let freed = sets::without(words.latched, acts.latched) % 4_294_967_296;
-    moving::clear(times, freed);
+    lying::clear(times, freed);
     let next = Words {
         clock,
         active: moved.active,

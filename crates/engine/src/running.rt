@@ -2,8 +2,9 @@
 ghost use mathlib.Core.Path.{_≡_};
 ghost use Rattle.chart.specs.Chart.{chartOf};
 ghost use Rattle.run.specs.Apart.{runOf};
-ghost use Rattle.cycle.specs.Cycling.{noReasons, cycleOn};
-ghost use Rattle.cycle.specs.Starting.{startOn};
+ghost use Rattle.cycle.specs.Cycling.{cycleOn};
+ghost use Rattle.passes.specs.Explaining.{noReasons};
+ghost use Rattle.calls.specs.Starting.{startOn};
 ghost use Rattle.shift.specs.Shifting.{shiftOf};
 ghost use Rattle.desk.specs.Lent.{wordsAt};
 ghost use Rattle.engine.specs.Lent.{left, shiftLeft};
@@ -68,7 +69,7 @@ pub extern "C" fn tolwaziho_start<'a>(
 ) -> u8
     ensures { λ r. ⌜ (r, 0, noReasons, (wordsAt (now (clock .exit)) (now (active .exit)) (now (activity .exit)) (now (stored .exit)) (now (latched .exit)) (now (good .exit)) (now (bad .exit)), now (counters .exit), now (timers .exit)), now (outputs .exit)) ≡ left (startOn (chartOf steps actions transitions blocks cases (now (initial .entry)) (now (output .entry)) (now (value .entry)) (now (sources .entry)) (now (targets .entry)) (now (on .entry)) (now (off .entry)) (now (wait .entry)) (now (blockstep .entry)) (now (blockaction .entry)) (now (qualifier .entry)) (now (duration .entry)) (now (casestep .entry)) (now (signal .entry)) (now (expected .entry))) new (now (outputs .entry))) ⌝ }
 {
-    let o = cycle::start_on(
+    let o = calls::start_on(
         steps,
         actions,
         transitions,
@@ -147,7 +148,7 @@ pub extern "C" fn tolwaziho_cycle<'a>(
         good: *good,
         bad: *bad,
     };
-    cycle::explain(
+    passes::explain(
         transitions,
         sources,
         targets,
@@ -192,7 +193,7 @@ pub extern "C" fn tolwaziho_cycle<'a>(
         &mut activities,
         outputs,
     );
-    cycle::keep_if(o.code, reasons);
+    passes::keep_if(o.code, reasons);
     put_words(o.words, clock, active, activity, stored, latched, good, bad);
     *taken = o.taken;
     o.code

@@ -8,7 +8,7 @@ use Rattle.chart.specs.declared.chart.Chart.{Chart}
 use Rattle.run.specs.declared.run.Run.{Run}
 use Rattle.cycle.specs.Cycling.{cycleOf, outputsAfter}
 use Rattle.cycle.specs.declared.cycling.Cycled.{Cycled}
-use Rattle.cycle.proofs.Unique.{cycle-unique}
+use Rattle.calls.proofs.Unique.{cycle-unique}
 use Rattle.lent.specs.Advancing.{asCycled}
 use Rattle.lent.specs.declared.advancing.Advanced.{Advanced}
 

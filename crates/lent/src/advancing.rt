@@ -24,7 +24,7 @@ pub fn advance(
     ensures { λ r. ⌜ (asCycled r (now (run .exit)) ≡ cycleOf chart (now (run .entry)) clock inputs (length (now (outputs .entry))))
         × (now (outputs .exit) ≡ outputsAfter chart (asCycled r (now (run .exit))) (now (outputs .entry))) ⌝ }
 {
-    let c = cycle::cycle(chart, *run, clock, inputs, outputs);
+    let c = calls::cycle(chart, *run, clock, inputs, outputs);
     *run = c.run;
     Advanced {
         code: c.code,

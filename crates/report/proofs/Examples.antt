@@ -13,7 +13,7 @@ use Rattle.reader.specs.Reading.{readFrom}
 use Rattle.reader.proofs.reading.Examples.{chartA}
 use Rattle.choice.specs.Choice.{reason, chosen, reasonsOf}
 use Rattle.acting.specs.Acting.{asked, acted}
-use Rattle.cycle.specs.Moving.{marksOf}
+use Rattle.passes.specs.Moving.{marksOf}
 use Rattle.trace.specs.Tracing.{callAt}
 use Rattle.report.specs.Lines.{text, hex, decimalFrom, decimal, acceptedLine, refusedLine, reasonsLine, chartLine, traceLine, tallyLine}
 use Rattle.report.specs.Printing.{printedFrom, printedRun}

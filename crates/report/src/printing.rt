@@ -113,13 +113,13 @@ fn print_call(chart: Chart, trace: &[u8], at: usize, run: Run, line: &mut [u8]) 
     let call = trace::call_at(trace, at);
     match call {
         Call::Start { clock } => {
-            let o = cycle::start(chart, clock, outputs);
+            let o = calls::start(chart, clock, outputs);
             let next = o.run;
             let length = call_line(line, number, o.code, next.active, next.activity, o.taken);
             stepped(length, false, at + 8, next)
         }
         Call::Cycle { clock, inputs } => {
-            let o = cycle::cycle(chart, run, clock, inputs, outputs);
+            let o = calls::cycle(chart, run, clock, inputs, outputs);
             let next = o.run;
             let length = cycle_lines(line, number, chart.transitions, o);
             stepped(length, false, at + 12, next)

@@ -20,15 +20,16 @@ use Rattle.acting.specs.declared.Request.{Request}
 use Rattle.acting.specs.declared.Asked.{Asked}
 use Rattle.acting.specs.declared.Acted.{Acted}
 use Rattle.run.specs.declared.run.Run.{Run}
-use Rattle.cycle.specs.Time.{elapsed, grownCounts, grownTimes}
-use Rattle.cycle.specs.Choosing.{stepsOf}
-use Rattle.cycle.specs.Moving.{goodAt, badAt, marksOf, signalsOf}
-use Rattle.cycle.specs.Outputs.{first, drives, outputsOf}
-use Rattle.cycle.specs.Bounds.{rests, bounded}
+use Rattle.passes.specs.Time.{elapsed, grownCounts, grownTimes}
+use Rattle.passes.specs.Choosing.{stepsOf}
+use Rattle.passes.specs.Moving.{goodAt, badAt, marksOf, signalsOf}
+use Rattle.passes.specs.Outputs.{first, drives, outputsOf}
+use Rattle.cycle.specs.Bounds.{bounded}
+use Rattle.passes.specs.Rests.{rests}
 use Rattle.cycle.specs.Cycling.{accepted, actedOn, settled, choiceOf, reasonsIn, marksAt, movedBy, cycled, outputsAfter}
-use Rattle.cycle.specs.declared.moving.Marks.{Marks}
+use Rattle.passes.specs.declared.moving.Marks.{Marks}
 use Rattle.cycle.specs.declared.cycling.Cycled.{Cycled}
-use Rattle.cycle.proofs.bounds.Laws.{rest-at}
+use Rattle.passes.proofs.rests.Laws.{rest-at}
 
 -- ---- tables whose numbers are below the limit
 

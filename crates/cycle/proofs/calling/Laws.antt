@@ -16,10 +16,10 @@ use Rattle.run.specs.declared.apart.Words.{Words}
 use Rattle.run.specs.declared.run.Run.{Run}
 use Rattle.run.proofs.apart.Laws.{same-counts, same-times, put-together}
 use Rattle.choice.proofs.Laws.{reasons-most}
-use Rattle.cycle.specs.Time.{elapsed, grownCounts}
-use Rattle.cycle.specs.Moving.{signalsOf}
-use Rattle.cycle.specs.Cycling.{noReasons, refused, readyCode, cycleCode, cycled, cycleOf, outputsAfter, cycleOn}
-use Rattle.cycle.specs.Explaining.{whyIn, keptIf}
+use Rattle.passes.specs.Time.{elapsed, grownCounts}
+use Rattle.passes.specs.Moving.{signalsOf}
+use Rattle.cycle.specs.Cycling.{refused, readyCode, cycleCode, cycled, cycleOf, outputsAfter, cycleOn, whyIn}
+use Rattle.passes.specs.Explaining.{keptIf, noReasons}
 use Rattle.cycle.specs.Calling.{Calls, noCalls, called, onward, singly, callsOn, InParts, inParts}
 use Rattle.cycle.specs.declared.cycling.Cycled.{Cycled}
 use Rattle.cycle.proofs.cycling.Laws.{stops, turned-away, passed}

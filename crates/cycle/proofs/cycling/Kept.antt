@@ -27,9 +27,9 @@ use Rattle.run.specs.Run.{longest, longer, counter, timer, noRun}
 use Rattle.run.specs.Belongs.{countFits, countersFit, timersFit, belongs}
 use Rattle.run.specs.declared.run.Run.{Run}
 use Rattle.run.proofs.belongs.Laws.{Own, own, is-own}
-use Rattle.cycle.specs.Time.{elapsed, grownCount, grownTime, grownCounts, grownTimes}
-use Rattle.cycle.specs.Choosing.{movedTo, stepsOf}
-use Rattle.cycle.specs.Moving.{settledCounters, settledTimers, marksOf, signalsOf}
+use Rattle.passes.specs.Time.{elapsed, grownCount, grownTime, grownCounts, grownTimes}
+use Rattle.passes.specs.Choosing.{movedTo, stepsOf}
+use Rattle.passes.specs.Moving.{settledCounters, settledTimers, marksOf, signalsOf}
 use Rattle.cycle.specs.Cycling.{refused, startCode, cycleCode, actedOn, startSteps, started, startOf, choiceOf, cycled, cycleOf}
 use Rattle.cycle.specs.declared.cycling.Cycled.{Cycled}
 use Rattle.cycle.proofs.cycling.Laws.{cycle-passed}

@@ -23,13 +23,14 @@ use Rattle.run.specs.Belongs.{belongs}
 use Rattle.run.specs.declared.run.StepCounter.{StepCounter}
 use Rattle.run.specs.declared.run.ActionTimer.{ActionTimer}
 use Rattle.run.specs.declared.run.Run.{Run}
-use Rattle.cycle.specs.Time.{elapsed, grownCounts, grownTimes}
-use Rattle.cycle.specs.Moving.{settledCounters, settledTimers, signalsOf}
-use Rattle.cycle.specs.Choosing.{stepsOf}
-use Rattle.cycle.specs.Outputs.{outputsOf}
+use Rattle.passes.specs.Time.{elapsed, grownCounts, grownTimes}
+use Rattle.passes.specs.Moving.{settledCounters, settledTimers, signalsOf}
+use Rattle.passes.specs.Choosing.{stepsOf}
+use Rattle.passes.specs.Outputs.{outputsOf}
 use Rattle.cycle.specs.Stepping.{Moved, movedOn}
-use Rattle.cycle.specs.Cycling.{noReasons, refused, accepted, readyCode, lateCode, cycleCode, actedOn, started, choiceOf, marksAt, cycled, outputsAfter, answered}
-use Rattle.cycle.specs.declared.moving.Marks.{Marks}
+use Rattle.cycle.specs.Cycling.{refused, accepted, readyCode, lateCode, cycleCode, actedOn, started, choiceOf, marksAt, cycled, outputsAfter, answered}
+use Rattle.passes.specs.Explaining.{noReasons}
+use Rattle.passes.specs.declared.moving.Marks.{Marks}
 use Rattle.cycle.specs.declared.cycling.Cycled.{Cycled}
 
 -- ---- the lent outputs

@@ -10,14 +10,13 @@ use lib.Dec.{eqb}
 use Rattle.chart.specs.declared.chart.Chart.{Chart}
 use Rattle.chart.proofs.held.Sound.{sound}
 use Rattle.run.specs.declared.run.Run.{Run}
-use Rattle.cycle.specs.Outputs.{outputsOf}
+use Rattle.passes.specs.Outputs.{outputsOf}
 use Rattle.cycle.specs.Bounds.{bounded}
-use Rattle.cycle.specs.Time.{elapsed}
-use Rattle.cycle.specs.Cycling.{refused, accepted, readyCode, cycleCode, cycled, cycleOf, cycleOn, outputsAfter}
+use Rattle.passes.specs.Time.{elapsed}
+use Rattle.cycle.specs.Cycling.{refused, accepted, readyCode, cycleCode, cycled, cycleOf, cycleOn, outputsAfter, whyIn}
 use Rattle.cycle.specs.Stepping.{Moved, movedOn}
-use Rattle.cycle.specs.Explaining.{whyIn}
 use Rattle.cycle.specs.declared.cycling.Cycled.{Cycled}
-use Rattle.cycle.proofs.outputs.Laws.{outputs-length}
+use Rattle.passes.proofs.outputs.Laws.{outputs-length}
 use Rattle.cycle.proofs.bounds.Sound.{cycled-bounded, after-bounded}
 use Rattle.cycle.proofs.cycling.Kept.{cycle-belongs}
 use Rattle.cycle.proofs.cycling.Laws.{goes-on, too-late, in-time, accepted-by, turned-away, together, passed, is-ready}

@@ -18,12 +18,12 @@ use Rattle.run.specs.Run.{counter, timer, longerCounter, longerTimer}
 use Rattle.run.specs.Apart.{countersOf, timersOf}
 use Rattle.run.specs.declared.run.StepCounter.{StepCounter}
 use Rattle.run.specs.declared.run.ActionTimer.{ActionTimer}
-use Rattle.cycle.specs.Time.{grownCounts, grownTimes}
-use Rattle.cycle.specs.Moving.{settledCounters, settledTimers, cleared}
+use Rattle.passes.specs.Time.{grownCounts, grownTimes}
+use Rattle.passes.specs.Moving.{settledCounters, settledTimers, cleared}
 use Rattle.cycle.specs.Bounds.{bounded}
 use Rattle.cycle.specs.Cycling.{actedOn}
 use Rattle.cycle.specs.Stepping.{allKept}
-use Rattle.cycle.proofs.bounds.Laws.{rest-lt}
+use Rattle.passes.proofs.rests.Laws.{rest-lt}
 use Rattle.cycle.proofs.bounds.Sound.{asked-same}
 
 -- numbers to be cleared have their places

@@ -10,12 +10,12 @@ use Rattle.run.specs.Apart.{wordsOf, countsOf, timesOf}
 use Rattle.run.specs.declared.apart.Words.{Words}
 use Rattle.run.specs.declared.run.Run.{Run}
 use Rattle.run.proofs.apart.Laws.{same-counts, same-times}
-use Rattle.cycle.specs.Cycling.{noReasons, cycleOf, cycleOn, outputsAfter}
-use Rattle.cycle.specs.Explaining.{whyIn, keptIf}
-use Rattle.cycle.specs.Starting.{begun, startOn}
+use Rattle.cycle.specs.Cycling.{cycleOf, cycleOn, outputsAfter, whyIn}
+use Rattle.passes.specs.Explaining.{keptIf, noReasons}
+use Rattle.calls.specs.Starting.{begun, startOn}
 use Rattle.cycle.specs.Calling.{callsOn, InParts, inParts}
 use Rattle.cycle.specs.declared.cycling.Cycled.{Cycled}
-use Rattle.cycle.specs.declared.starting.Started.{Started}
+use Rattle.calls.specs.declared.starting.Started.{Started}
 use Rattle.cycle.proofs.cycling.Laws.{together}
 use Rattle.cycle.proofs.calling.Laws.{once}
 use Rattle.shift.specs.Shifting.{shiftOf}

@@ -3,6 +3,7 @@ use mathlib.Core.Path.{ap, _∙_}
 use native.Mathlib.Omega.{arith}
 use lib.ListN.{length}
 use denote.Ref.{now}
+use borrow.Author.Tests.{le-leb}
 use Rattle.sets.proofs.Loops.{length-table}
 use Rattle.chart.specs.declared.chart.Chart.{Chart}
 use Rattle.run.specs.Apart.{countersOf, timersOf, runOf}
@@ -53,7 +54,7 @@ marks-of-requires : tie.Need-marks-of-requires
 marks-of-requires c κs = search needs
 
 settle-requires : tie.Need-settle-requires
-settle-requires c κs = c .before .before .before .before .before .before .before .before .before .before .before .before .before .before .before .before .pre .0
+settle-requires c κs = search needs
 
 without-requires-2 : tie.Need-without-requires-2
 without-requires-2 c κs = search needs
@@ -97,7 +98,7 @@ returns c =
           (timing .elapsed .ensures) grown older (sensing .signals-of .ensures) (choosing .choose .ensures) (moving .steps-of .ensures) (marking .marks-of .ensures)
           (x .0 ∙ acted-now (chart s) _ _ _ st (a .words .stored) (a .words .latched) counted) (settled-counts (st .kept) (clearing .clear .last .0) (counts .grow-counts .last .0) counted) (settled-times (acting .settle .result .latched) (freeing .clear2 .last .0) (times .grow-times .last .0) timed)
           (c .before .joined .ensures) (c .joined2 .ensures))
-          (x .1),
+          (rw (le-leb 32 (length (now (a .outputs))) (s .pre .0)) at (x .1)),
       ap length (clearing .clear .ensures) ∙ length-table _ _ ∙ ap length grown ∙ length-table _ 64,
       ap length (freeing .clear2 .ensures) ∙ length-table _ _ ∙ ap length older ∙ length-table _ 32,
     )

@@ -6,7 +6,7 @@ use Rattle.run.specs.Apart.{runOf}
 use Rattle.run.specs.declared.run.Run.{Run}
 use Rattle.desk.specs.Lent.{wordsAt}
 use mathlib.Core.Path.{refl, ap, _∙_}
-use Rattle.cycle.specs.Explaining.{keptIf}
+use Rattle.passes.specs.Explaining.{keptIf}
 use Rattle.engine.proofs.running.Laws.{cycle-left}
 use borrow.Author.Needs.{needs}
 use Rattle.engine.proofs.running.tolwaziho_cycle.Statement.{statement}

@@ -52,10 +52,10 @@ use Rattle.cycle.specs.Cycling.{cycleOf, outputsAfter}
 use Rattle.cycle.specs.declared.cycling.Cycled.{Cycled}
 use Rattle.cycle.proofs.cycling.Cycled as K
 use Rattle.cycle.proofs.cycling.Cycled.Laws as K′
-use Rattle.cycle.proofs.cycling.cycle as cycle
-use Rattle.cycle.proofs.cycling.cycle.Symbol as cycle-def
-use Rattle.cycle.proofs.cycling.cycle.Symbol.{name as #cycle·cycling·cycle}
-use Rattle.cycle.proofs.cycling.cycle.Met as cycle-thm
+use Rattle.calls.proofs.cycling.cycle as cycle
+use Rattle.calls.proofs.cycling.cycle.Symbol as cycle-def
+use Rattle.calls.proofs.cycling.cycle.Symbol.{name as #calls·cycling·cycle}
+use Rattle.calls.proofs.cycling.cycle.Met as cycle-thm
 use Rattle.lent.proofs.advancing.Advanced as D
 use Rattle.lent.proofs.advancing.Advanced.Laws as D′
 use Rattle.lent.specs.declared.advancing.Advanced.{Advanced}
@@ -166,7 +166,7 @@ module _ {M : Type 1} (𝓤 : URA M) (H : Heap 𝓤) (A : Atoms 𝓤) (W : Given
       move ! (1 ∷ 0 ∷ []) $ join ! $ done !
 
   module _ (C : Calls 𝓤 H) (Λ : Loops 𝓤 H) (fm : FmC 𝓤 H (W .laws) C)
-      (known : Triple 𝓤 (C #cycle·cycling·cycle) (Cycle 𝓤 H A at-mem run)) where
+      (known : Triple 𝓤 (C #calls·cycling·cycle) (Cycle 𝓤 H A at-mem run)) where
     walk : Room i32 (length (out .now))
         → ent 𝓤 (onEntry 𝓤 H A advance.signature (κ, (κ′, tt)) (q, (q′, tt)) a vals) (WpFn 𝓤 H C Λ code.function passed Post)
     walk room =
@@ -230,7 +230,7 @@ module _ {M : Type 1} (𝓤 : URA M) (H : Heap 𝓤) (A : Atoms 𝓤) (W : Given
 
 module _ {M : Type 1} (𝓤 : URA M) (H : Heap 𝓤) (A : Atoms 𝓤) (W : Given 𝓤 H A) (mem : Memory → SProp 𝓤) (run : Routine → Fun 𝓤) where
   advance-walks : (C : Calls 𝓤 H) (Λ : Loops 𝓤 H) → FmC 𝓤 H (W .laws) C
-      → Triple 𝓤 (C #cycle·cycling·cycle) (Cycle 𝓤 H A mem run)
+      → Triple 𝓤 (C #calls·cycling·cycle) (Cycle 𝓤 H A mem run)
       → Walks 𝓤 H A advance.ended stayed (WpFn 𝓤 H C Λ code.function) (advance.clauses 𝓤 H A mem run)
   advance-walks C Λ fm known =
       walked 𝓤 H A advance.ended stayed (advance.clauses 𝓤 H A mem run) (WpFn 𝓤 H C Λ code.function)
@@ -242,7 +242,7 @@ module _ {M : Type 1} (𝓤 : URA M) (H : Heap 𝓤) (A : Atoms 𝓤) (W : Given
       (a .1 .1 .1 .1 .0) C Λ fm known (are .1 .1 .1 .1 .0 .0 .1)))
 
 advance-meets : {M : Type 1} (𝓤 : URA M) (H : Heap 𝓤) (A : Atoms 𝓤) → Given 𝓤 H A → (mem : Memory → SProp 𝓤) (run : Routine → Fun 𝓤)
-    (𝓣 : Tables 𝓤 H) → Triple 𝓤 (𝓣 .C #cycle·cycling·cycle) (Cycle 𝓤 H A mem run)
+    (𝓣 : Tables 𝓤 H) → Triple 𝓤 (𝓣 .C #calls·cycling·cycle) (Cycle 𝓤 H A mem run)
     → Meets 𝓤 H A advance.signature (WpFn 𝓤 H (𝓣 .C) (𝓣 .Λ) code.function) (advance.spec 𝓤 H A mem run)
 advance-meets 𝓤 H A W mem run 𝓣 known =
     let word = goes-none 𝓤 H A W 2 (λ _. u32) yes (λ κs x f. refl) in
@@ -259,5 +259,5 @@ advance-spec 𝓤 H 𝓜 𝓖 𝓡 =
     entered 𝓤 H (tripleOf 𝓤 H (𝓖 .A) advance.signature (advance.spec 𝓤 H (𝓖 .A) (𝓜 .mem) (𝓡 .run)))
     (tables 𝓤 H 𝓜 𝓡 code.env .C) (tables 𝓤 H 𝓜 𝓡 code.env .Λ) #lent·advancing·advance code.function (code.unfolded 𝓤 H 𝓜 𝓡)
     (advance-meets 𝓤 H (𝓖 .A) (givenOf 𝓤 H 𝓜 𝓖) (𝓜 .mem) (𝓡 .run) (tablesOf 𝓤 H 𝓜 (tables 𝓤 H 𝓜 𝓡 code.env))
-    (cited 𝓤 H (Cycle 𝓤 H (𝓖 .A) (𝓜 .mem) (𝓡 .run)) 𝓜 𝓡 code.env #cycle·cycling·cycle cycle-def.routine
-    code.calls-cycle·cycling·cycle (cycle-thm.met 𝓤 H 𝓜 𝓖 𝓡)))
+    (cited 𝓤 H (Cycle 𝓤 H (𝓖 .A) (𝓜 .mem) (𝓡 .run)) 𝓜 𝓡 code.env #calls·cycling·cycle cycle-def.routine
+    code.calls-calls·cycling·cycle (cycle-thm.met 𝓤 H 𝓜 𝓖 𝓡)))

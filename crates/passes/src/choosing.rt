@@ -1,0 +1,58 @@
+// Paragraph 2 of "One cycle": which transitions are taken, in number order.
+ghost use mathlib.Core.Path.{_≡_};
+ghost use Prim.Native.Nat.{min};
+ghost use Rattle.choice.specs.Choice.{chosen};
+ghost use Rattle.passes.specs.Choosing.{stepsOf};
+use acting::Steps;
+use choice::Choice;
+
+pub fn choose<'a>(
+    n: usize,
+    sources: &'a [u64; 64],
+    targets: &'a [u64; 64],
+    on: &'a [u64; 64],
+    off: &'a [u64; 64],
+    wait: &'a [u32; 64],
+    counts: &'a [u32; 64],
+    active: u64,
+    signals: u64,
+) -> Choice
+    ensures { λ r. ⌜ r ≡ chosen (min n 64) (now (sources .entry)) (now (targets .entry)) (now (on .entry)) (now (off .entry)) (now (wait .entry)) (now (counts .entry)) active signals ⌝ }
+{
+    let mut choice = Choice {
+        taken: 0,
+        left: 0,
+        claimed: 0,
+    };
+    let last = chart::at_most(n, 64);
+    let mut t = 0;
+    while t < last {
+        choice = choice::choose_one(
+            choice,
+            t,
+            sources[t],
+            targets[t],
+            on[t],
+            off[t],
+            wait[t],
+            counts,
+            active,
+            signals,
+        );
+        t += 1;
+    }
+    choice
+}
+
+// Paragraph 3: sources of taken transitions are left, targets entered.
+pub fn steps_of(active: u64, choice: Choice) -> Steps
+    ensures { λ r. ⌜ r ≡ stepsOf active choice ⌝ }
+{
+    let after = sets::joined(sets::without(active, choice.left), choice.claimed);
+    Steps {
+        active: after,
+        entered: choice.claimed,
+        left: choice.left,
+        kept: sets::without(after, choice.claimed),
+    }
+}
