@@ -59,7 +59,8 @@ enum tw_reason {
 	TW_SIGNAL = 3,		/* a signal in on is 0, or one in off is 1 */
 	TW_WAIT = 4,		/* a source has not been active for the wait */
 	TW_OCCUPIED = 5,	/* a target is active */
-	TW_CLAIMED = 6		/* a target is claimed by an earlier transition */
+	TW_CLAIMED = 6,		/* a target is claimed by an earlier transition */
+	TW_HOLD = 7		/* the run is held; this comes before all the others */
 };
 
 enum tw_qualifier { TW_N, TW_R, TW_S, TW_L, TW_D, TW_P, TW_SD, TW_DS, TW_SL, TW_P1, TW_P0 };
@@ -88,6 +89,7 @@ struct tw_run {
 	uint32_t counters[TW_STEPS];					/* ms that a step has been active; 0 for the others */
 	uint32_t timers[TW_ACTIONS];					/* ms that an action has been latched; 0 for the others */
 	uint64_t good, bad;						/* sets of cases: their marks */
+	uint8_t hold;							/* 1 held by the key, 0 not */
 };
 
 /* Reads a chart file. Accepted: the chart, with zeros beyond its counts, and place 0. Refused by 1 to 10: an all-zero chart, and the place of the
@@ -103,7 +105,7 @@ enum tw_code tw_test(const struct tw_chart *chart);
 enum tw_code tw_write(const struct tw_chart *chart, uint8_t *bytes, size_t lent, size_t *length);
 
 /* Starts a run at this clock; whatever was in it goes. Accepted: a run in the initial steps, and of so many lent outputs the first 32 are written, no
-   others. Refused by 15, the chart's numbers: an all-zero run, and the outputs stay. */
+   others; it is not held. Refused by 15, the chart's numbers: an all-zero run, and the outputs stay. */
 enum tw_code tw_start(const struct tw_chart *chart, struct tw_run *run, uint32_t clock, int32_t *outputs, size_t lent);
 
 /* Makes one cycle at this clock, in ms modulo 2^32, with these inputs, bit k for input k. Accepted: the run moved on where it lies, the set of
@@ -111,6 +113,12 @@ enum tw_code tw_start(const struct tw_chart *chart, struct tw_run *run, uint32_t
    12, 11: the run and the outputs stay, taken and all reasons are 0. */
 enum tw_code tw_cycle(const struct tw_chart *chart, struct tw_run *run, uint32_t clock, uint32_t inputs, int32_t *outputs, size_t lent,
 	uint64_t *taken, uint8_t reasons[TW_TRANSITIONS]);
+
+/* Turns the key: a run is held, or released. Held, its cycles take no transition and its step counters stand still, while its action timers run on, and
+   actions and outputs are worked out as usual. Accepted: the run with its mark 1, or 0, and nothing else of it changed; a held run may be held again.
+   Refused by the chart's numbers, 12: the run stays. */
+enum tw_code tw_hold(const struct tw_chart *chart, struct tw_run *run);
+enum tw_code tw_release(const struct tw_chart *chart, struct tw_run *run);
 
 /* Makes up to 4,096 cycles, number k at clocks[k] with inputs[k] and its activity into activities[k]: what tw_cycle does one after the other, up
    to the first refusal, but for the reasons, which it does not make. Accepted: all are made, and the run and the outputs are the last one's. Refused by 15, the chart's numbers, 12, 18: none is

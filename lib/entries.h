@@ -1,8 +1,9 @@
-/* The proved entries of crates/engine and crates/desk, as C sees them: a slice is a pointer and a length, a lent array or number a pointer. They answer the
+/* The proved entries of crates/engine, crates/key and crates/desk, as C sees them: a slice is a pointer and a length, a lent array or number a pointer. They answer the
    number of refusal, as include/tolwaziho.h says of the call of the same name. Nobody but tolwaziho.c calls them. */
 #ifndef TOLWAZIHO_ENTRIES_H
 #define TOLWAZIHO_ENTRIES_H
 
+#include <stdbool.h>
 #include <stddef.h>
 #include <stdint.h>
 
@@ -16,7 +17,7 @@
 /* A run in the order of struct tw_run, lent to be moved on. */
 #define RUN \
 	uint32_t *clock, uint64_t *active, uint64_t *activity, uint64_t *stored, uint64_t *latched, uint32_t counters[64], uint32_t timers[32], \
-	uint64_t *good, uint64_t *bad
+	uint64_t *good, uint64_t *bad, uint8_t *hold
 
 uint8_t tolwaziho_next_record(const uint8_t *bytes, size_t size, size_t *at, uint16_t *before, uint16_t *kind, size_t *place, size_t *length);
 uint8_t tolwaziho_read(const uint8_t *bytes, size_t size, size_t *steps, size_t *actions, size_t *transitions, size_t *blocks, size_t *cases,
@@ -27,10 +28,12 @@ uint8_t tolwaziho_test(CHART);
 uint8_t tolwaziho_write(CHART, uint8_t *bytes, size_t size, size_t *length);
 uint8_t tolwaziho_start(CHART, RUN, uint32_t new, int32_t *outputs, size_t lent);
 uint8_t tolwaziho_cycle(CHART, RUN, uint32_t new, uint32_t inputs, int32_t *outputs, size_t lent, uint64_t *taken, uint8_t reasons[64]);
+uint8_t tolwaziho_turn(CHART, uint32_t clock, uint64_t active, uint64_t activity, uint64_t stored, uint64_t latched, const uint32_t counters[64],
+	const uint32_t timers[32], uint64_t good, uint64_t bad, uint8_t *hold, bool held);
 uint8_t tolwaziho_shift(CHART, RUN, const uint32_t *clocks, size_t nclocks, const uint32_t *inputs, size_t ninputs, uint64_t *activities,
 	size_t nactivities, int32_t *outputs, size_t lent, size_t *accepted);
 uint8_t tolwaziho_tally(CHART, uint32_t clock, uint64_t active, uint64_t activity, uint64_t stored, uint64_t latched,
-	const uint32_t counters[64], const uint32_t timers[32], uint64_t good, uint64_t bad, size_t *passed, size_t *failed, size_t *notrun);
+	const uint32_t counters[64], const uint32_t timers[32], uint64_t good, uint64_t bad, uint8_t hold, size_t *passed, size_t *failed, size_t *notrun);
 uint8_t tolwaziho_weigh(CHART, const uint16_t *weights, size_t nweights, size_t *transition, uint32_t *total);
 uint8_t tolwaziho_advance(CHART, RUN, uint32_t new, uint32_t inputs, int32_t *outputs, size_t lent, uint64_t *taken, uint8_t reasons[64]);
 

@@ -12,7 +12,7 @@
 
 /* A run's as RUN has them. */
 #define RUN_OF(r) \
-	&(r)->clock, &(r)->active, &(r)->activity, &(r)->stored, &(r)->latched, (r)->counters, (r)->timers, &(r)->good, &(r)->bad
+	&(r)->clock, &(r)->active, &(r)->activity, &(r)->stored, &(r)->latched, (r)->counters, (r)->timers, &(r)->good, &(r)->bad, &(r)->hold
 
 enum tw_code tw_read(const uint8_t *bytes, size_t size, struct tw_chart *c, size_t *place)
 {
@@ -40,6 +40,23 @@ enum tw_code tw_cycle(const struct tw_chart *chart, struct tw_run *run, uint32_t
 	return tolwaziho_cycle(CHART_OF(chart), RUN_OF(run), clock, inputs, outputs, lent, taken, reasons);
 }
 
+/* The key turned, to hold or back. */
+static enum tw_code turn(const struct tw_chart *chart, struct tw_run *r, bool held)
+{
+	return tolwaziho_turn(CHART_OF(chart), r->clock, r->active, r->activity, r->stored, r->latched, r->counters, r->timers, r->good, r->bad,
+		&r->hold, held);
+}
+
+enum tw_code tw_hold(const struct tw_chart *chart, struct tw_run *run)
+{
+	return turn(chart, run, true);
+}
+
+enum tw_code tw_release(const struct tw_chart *chart, struct tw_run *run)
+{
+	return turn(chart, run, false);
+}
+
 enum tw_code tw_shift(const struct tw_chart *chart, struct tw_run *run, const uint32_t *clocks, size_t nclocks, const uint32_t *inputs,
 	size_t ninputs, uint64_t *activities, size_t nactivities, int32_t *outputs, size_t lent, size_t *accepted)
 {
@@ -49,7 +66,7 @@ enum tw_code tw_shift(const struct tw_chart *chart, struct tw_run *run, const ui
 enum tw_code tw_tally(const struct tw_chart *chart, const struct tw_run *r, struct tw_tallied *tallied)
 {
 	return tolwaziho_tally(CHART_OF(chart), r->clock, r->active, r->activity, r->stored, r->latched, r->counters, r->timers, r->good, r->bad,
-		&tallied->passed, &tallied->failed, &tallied->notrun);
+		r->hold, &tallied->passed, &tallied->failed, &tallied->notrun);
 }
 
 enum tw_code tw_weigh(const struct tw_chart *chart, const uint16_t *weights, size_t nweights, struct tw_weighed *weighed)
@@ -104,6 +121,7 @@ const char *tw_why(enum tw_reason reason)
 	case TW_WAIT: return "a wait";
 	case TW_OCCUPIED: return "a target occupied";
 	case TW_CLAIMED: return "a target claimed by an earlier one";
+	case TW_HOLD: return "hold";
 	}
 	return "unknown";
 }

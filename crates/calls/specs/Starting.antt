@@ -16,7 +16,7 @@ begun s = record { code = s .code; taken = 0; reasons = noReasons; run = runOf (
 
 -- "A refused start returns an all-zero run"
 abbrev pub notBegun : ℕ → Started
-notBegun code = record { code = code; words = record { clock = 0; active = 0; activity = 0; stored = 0; latched = 0; good = 0; bad = 0 } }
+notBegun code = record { code = code; words = record { clock = 0; active = 0; activity = 0; stored = 0; latched = 0; good = 0; bad = 0; hold = 0 } }
 
 abbrev pub startOn : Chart → ℕ → List ℤ → Cycled × List ℤ
 startOn c clock out = answered c out (startOf c clock (length out))

@@ -26,6 +26,7 @@ fn refused(code: u8) -> Started
         latched: 0,
         good: 0,
         bad: 0,
+        hold: 0,
     };
     Started { code, words }
 }
@@ -117,6 +118,7 @@ pub fn start_on<'a>(
         latched: acts.latched,
         good: 0,
         bad: 0,
+        hold: 0,
     };
     Started { code: 0, words }
 }

@@ -2,7 +2,7 @@
 -- cycle's beginning, and what is entered was not.
 use Prim.Native.Nat.{ℕ, zero, suc, _+_, _≤_, _<_, min}
 use mathlib.Core.List.{List}
-use mathlib.Core.Bool.{Bool, true, false, _&&_, cond}
+use mathlib.Core.Bool.{Bool, true, false, _&&_, not, cond}
 use mathlib.Core.Path.{_≡_, refl, sym, ap, _∙_}
 use native.Mathlib.Omega.{arith}
 use lib.ListN.{getD, length, length-set, set, replicate, getD-replicate}
@@ -15,7 +15,7 @@ use Rattle.sets.proofs.Loops.{bool-eq, and-true, turns-start, turns-more, lengt
 use Rattle.sets.proofs.Members.{has-zero}
 use Rattle.sets.proofs.Below.{has-union, within-has, apart-has, either, never}
 use Rattle.fields.specs.Fields.{unless}
-use Rattle.choice.specs.Choice.{ripe, reason, takes, choosingAt, noneTaken, chosen, reasonAt, reasonsOf}
+use Rattle.choice.specs.Choice.{ripe, reason, takes, choosingAt, noneTaken, chosen, reasonAt, held, reasonUnder, reasonsOf, heldReasons}
 use Rattle.choice.specs.declared.Choice.{Choice}
 
 -- ---- a reason is 0 exactly if every test holds
@@ -117,63 +117,113 @@ module _ (ch : Choice) (s t on off w : ℕ) (counts : List ℕ) (active signals 
 ltb-same : (k m n : ℕ) → (k < m → k < n) → (k < n → k < m) → ltb k m ≡ ltb k n
 ltb-same k m n f g = bool-eq (ltb k m) (ltb k n) (λ e. lt-ltb k n (f (ltb-true k m e))) (λ e. lt-ltb k m (g (ltb-true k n e)))
 
-module _ (sources targets on off wait counts : List ℕ) (active signals : ℕ) where
-  abbrev reasons : ℕ → List ℕ
-  reasons n = reasonsOf n sources targets on off wait counts active signals
+pub reason-under-most : (hold : ℕ) (ch : Choice) (s t on off w : ℕ) (counts : List ℕ) (active signals : ℕ) → reasonUnder hold (reason ch s t on off w counts active signals) ≤ 7
+reason-under-most hold ch s t on off w counts active signals = go (held hold)
+  where
+    go : (h : Bool) → orElse (unless (not h) 7) (reason ch s t on off w counts active signals) ≤ 7
+    go true = omega arith
+    go false = omega (arith, reason-most ch s t on off w counts active signals)
 
-  abbrev why : ℕ → ℕ
-  why t = reasonAt sources targets on off wait counts active signals t
+-- what is told of the first n transitions, and 0 beyond
+module _ (why : ℕ → ℕ) where
+  abbrev told : ℕ → List ℕ
+  told n = table (λ t. cond (ltb t n) (why t) 0) 64
 
-  pub reasons-at : (n k : ℕ) → k < 64 → getD (reasons n) k 0 ≡ cond (ltb k n) (why k) 0
-  unfolding reasonsOf
-  reasons-at n k l = getD-table (λ t. cond (ltb t n) (why t) 0) 64 k 0 l
+  told-at : (n k : ℕ) → k < 64 → getD (told n) k 0 ≡ cond (ltb k n) (why k) 0
+  told-at n k l = getD-table (λ t. cond (ltb t n) (why t) 0) 64 k 0 l
 
-  pub reasons-most : (n k : ℕ) → k < 64 → getD (reasons n) k 0 ≤ 6
-  reasons-most n k l = rw (reasons-at n k l) (go (ltb k n))
-    where
-      go : (b : Bool) → cond b (why k) 0 ≤ 6
-      go true = reason-most (chosen k sources targets on off wait counts active signals) _ _ _ _ _ counts active signals
-      go false = omega arith
+  told-are : (n : ℕ) (l : List ℕ) → length l ≡ 64 → ((k : ℕ) → k < 64 → getD l k 0 ≡ cond (ltb k n) (why k) 0) → l ≡ told n
+  told-are n l h f = is-table (λ t. cond (ltb t n) (why t) 0) 64 l 0 h f
 
-  reasons-are : (n : ℕ) (l : List ℕ) → length l ≡ 64 → ((k : ℕ) → k < 64 → getD l k 0 ≡ cond (ltb k n) (why k) 0) → l ≡ reasons n
-  unfolding reasonsOf
-  reasons-are n l h f = is-table (λ t. cond (ltb t n) (why t) 0) 64 l 0 h f
+  told-long : (n : ℕ) → length (told n) ≡ 64
+  told-long n = length-table (λ t. cond (ltb t n) (why t) 0) 64
 
-  reasons-long : (n : ℕ) → length (reasons n) ≡ 64
-  unfolding reasonsOf
-  reasons-long n = length-table (λ t. cond (ltb t n) (why t) 0) 64
+  none-told : replicate 64 0 ≡ told 0
+  none-told = told-are 0 (replicate 64 0) refl (λ k l. getD-replicate 64 k 0 0 l ∙ rw (le-ltb k 0 (omega arith)))
 
-  abbrev taken : ℕ → Choice
-  taken n = chosen n sources targets on off wait counts active signals
-
-  pub none-explained : (noneTaken ≡ taken 0) × (replicate 64 0 ≡ reasons 0)
-  unfolding chosen
-  none-explained = (turns-start _ _, reasons-are 0 (replicate 64 0) refl (λ k l. getD-replicate 64 k 0 0 l ∙ rw (le-ltb k 0 (omega arith))))
-
-  one-reason : (t v : ℕ) (l : List ℕ) → l ≡ reasons t → t < 64 → v ≡ why t → set l t v ≡ reasons (t + 1)
-  one-reason t v l e m h = reasons-are (t + 1) (set l t v) (length-set l t v ∙ long) (λ k n. go k n (eqb k t) refl)
+  one-told : (t v : ℕ) (l : List ℕ) → l ≡ told t → t < 64 → v ≡ why t → set l t v ≡ told (t + 1)
+  one-told t v l e m h = told-are (t + 1) (set l t v) (length-set l t v ∙ long) (λ k n. go k n (eqb k t) refl)
     where
       long : length l ≡ 64
-      long = ap length e ∙ reasons-long t
+      long = ap length e ∙ told-long t
 
       go : (k : ℕ) → k < 64 → (b : Bool) → eqb k t ≡ b → getD (set l t v) k 0 ≡ cond (ltb k (t + 1)) (why k) 0
       go k n true q = let same = eqb-true k t q in rw (same, lt-ltb t (t + 1) (omega arith)) (getD-set-same l t v 0 (rw long m) ∙ h)
-      go k n false q = let other = eqb-false k t q in getD-set-other l t k v 0 other ∙ rw e (reasons-at t k n) ∙ ap (λ (b : Bool). cond b (why k) 0) (ltb-same k t (t + 1) (λ x. omega arith) (λ x. omega arith))
-
-  -- transition t, after those before it
-  pub one-explained : (t v : ℕ) (ch next : Choice) (l : List ℕ) → ch ≡ taken t → l ≡ reasons t → t < 64
-      → v ≡ reason ch (getD sources t 0) (getD targets t 0) (getD on t 0) (getD off t 0) (getD wait t 0) counts active signals
-      → next ≡ cond (eqb v 0) (takes ch t (getD sources t 0) (getD targets t 0)) ch → (next ≡ taken (t + 1)) × (set l t v ≡ reasons (t + 1))
-  unfolding chosen
-  one-explained t v ch next l e f m h g = (
-    turns-more _ _ t ch next e (g ∙ ap (λ (x : ℕ). cond (eqb x 0) (takes ch t (getD sources t 0) (getD targets t 0)) ch) h),
-    one-reason t v l f m (h ∙ ap (λ (x : Choice). reason x (getD sources t 0) (getD targets t 0) (getD on t 0) (getD off t 0) (getD wait t 0) counts active signals) e),
-  )
+      go k n false q = let other = eqb-false k t q in getD-set-other l t k v 0 other ∙ rw e (told-at t k n) ∙ ap (λ (b : Bool). cond b (why k) 0) (ltb-same k t (t + 1) (λ x. omega arith) (λ x. omega arith))
 
   -- there is room for 64, and so for all
-  pub all-explained : (n t : ℕ) (l : List ℕ) → l ≡ reasons t → t ≡ min n 64 → l ≡ reasons n
-  all-explained n t l e h =
-      e ∙ reasons-are n (reasons t) (reasons-long t) (λ k m. reasons-at t k m ∙ ap (λ (b : Bool). cond b (why k) 0) (ltb-same k t n (λ x. omega arith) (λ x. omega arith)))
+  all-told : (n t : ℕ) (l : List ℕ) → l ≡ told t → t ≡ min n 64 → l ≡ told n
+  all-told n t l e h =
+      e ∙ told-are n (told t) (told-long t) (λ k m. told-at t k m ∙ ap (λ (b : Bool). cond b (why k) 0) (ltb-same k t n (λ x. omega arith) (λ x. omega arith)))
+
+module _ (hold : ℕ) (sources targets on off wait counts : List ℕ) (active signals : ℕ) where
+  abbrev reasons : ℕ → List ℕ
+  reasons n = reasonsOf hold n sources targets on off wait counts active signals
+
+  abbrev why : ℕ → ℕ
+  why t = reasonUnder hold (reasonAt sources targets on off wait counts active signals t)
+
+  pub reasons-at : (n k : ℕ) → k < 64 → getD (reasons n) k 0 ≡ cond (ltb k n) (why k) 0
+  unfolding reasonsOf
+  reasons-at n k l = told-at why n k l
+
+  pub reasons-most : (n k : ℕ) → k < 64 → getD (reasons n) k 0 ≤ 7
+  reasons-most n k l = rw (reasons-at n k l) (go (ltb k n))
+    where
+      go : (b : Bool) → cond b (why k) 0 ≤ 7
+      go true = reason-under-most hold (chosen k sources targets on off wait counts active signals) _ _ _ _ _ counts active signals
+      go false = omega arith
+
+  -- held or not
+  pub all-held : (n : ℕ) → held hold ≡ true → heldReasons n ≡ reasons n
+  unfolding reasonsOf heldReasons
+  all-held n h = rw h
+
+  pub none-held : (n : ℕ) → held hold ≡ false → reasonsOf 0 n sources targets on off wait counts active signals ≡ reasons n
+  unfolding reasonsOf
+  none-held n h = rw h
+
+-- of a run that is not held, transition after transition
+module _ (sources targets on off wait counts : List ℕ) (active signals : ℕ) where
+  abbrev taken : ℕ → Choice
+  taken n = chosen n sources targets on off wait counts active signals
+
+  abbrev free : ℕ → List ℕ
+  free n = reasonsOf 0 n sources targets on off wait counts active signals
+
+  abbrev freely : ℕ → ℕ
+  freely t = reasonAt sources targets on off wait counts active signals t
+
+  pub none-explained : (noneTaken ≡ taken 0) × (replicate 64 0 ≡ free 0)
+  unfolding chosen reasonsOf
+  none-explained = (turns-start _ _, none-told freely)
+
+  -- transition t, after those before it
+  pub one-explained : (t v : ℕ) (ch next : Choice) (l : List ℕ) → ch ≡ taken t → l ≡ free t → t < 64
+      → v ≡ reason ch (getD sources t 0) (getD targets t 0) (getD on t 0) (getD off t 0) (getD wait t 0) counts active signals
+      → next ≡ cond (eqb v 0) (takes ch t (getD sources t 0) (getD targets t 0)) ch → (next ≡ taken (t + 1)) × (set l t v ≡ free (t + 1))
+  unfolding chosen reasonsOf
+  one-explained t v ch next l e f m h g = (
+    turns-more _ _ t ch next e (g ∙ ap (λ (x : ℕ). cond (eqb x 0) (takes ch t (getD sources t 0) (getD targets t 0)) ch) h),
+    one-told freely t v l f m (h ∙ ap (λ (x : Choice). reason x (getD sources t 0) (getD targets t 0) (getD on t 0) (getD off t 0) (getD wait t 0) counts active signals) e),
+  )
+
+  pub all-explained : (n t : ℕ) (l : List ℕ) → l ≡ free t → t ≡ min n 64 → l ≡ free n
+  unfolding reasonsOf
+  all-explained n t l e h = all-told freely n t l e h
+
+-- of a run that is held
+pub none-held-yet : replicate 64 0 ≡ heldReasons 0
+unfolding heldReasons
+none-held-yet = none-told (λ t. 7)
+
+pub one-held : (t : ℕ) (l : List ℕ) → l ≡ heldReasons t → t < 64 → set l t 7 ≡ heldReasons (t + 1)
+unfolding heldReasons
+one-held t l e m = one-told (λ t. 7) t 7 l e m refl
+
+pub every-held : (n t : ℕ) (l : List ℕ) → l ≡ heldReasons t → t ≡ min n 64 → l ≡ heldReasons n
+unfolding heldReasons
+every-held n t l e h = all-told (λ t. 7) n t l e h
 
 -- ---- left and entered
 

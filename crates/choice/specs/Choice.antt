@@ -57,7 +57,24 @@ abbrev pub reasonAt : List ℕ → List ℕ → List ℕ → List ℕ → List �
 reasonAt sources targets on off wait counts active signals t =
     reason (chosen t sources targets on off wait counts active signals) (getD sources t 0) (getD targets t 0) (getD on t 0) (getD off t 0) (getD wait t 0) counts active signals
 
+-- document 02, request (vii): the hold mark of a run is set
+abbrev pub held : ℕ → Bool
+held hold = eqb hold 1
+
+-- "In a cycle under hold no transition is taken"
+abbrev pub chosenUnder : ℕ → ℕ → List ℕ → List ℕ → List ℕ → List ℕ → List ℕ → List ℕ → ℕ → ℕ → Choice
+chosenUnder hold n sources targets on off wait counts active signals =
+    cond (held hold) noneTaken (chosen n sources targets on off wait counts active signals)
+
+-- "reason 7 of request (vi) is "hold" and comes first"
+abbrev pub reasonUnder : ℕ → ℕ → ℕ
+reasonUnder hold why = orElse (unless (not (held hold)) 7) why
+
 -- of 64, n of which there are: "Reasons .. beyond the last transition are 0."
-unfoldable pub reasonsOf : ℕ → List ℕ → List ℕ → List ℕ → List ℕ → List ℕ → List ℕ → ℕ → ℕ → List ℕ
-reasonsOf n sources targets on off wait counts active signals =
-    table (λ t. cond (ltb t n) (reasonAt sources targets on off wait counts active signals t) 0) 64
+unfoldable pub reasonsOf : ℕ → ℕ → List ℕ → List ℕ → List ℕ → List ℕ → List ℕ → List ℕ → ℕ → ℕ → List ℕ
+reasonsOf hold n sources targets on off wait counts active signals =
+    table (λ t. cond (ltb t n) (reasonUnder hold (reasonAt sources targets on off wait counts active signals t)) 0) 64
+
+-- under hold they are the same whatever the transitions are
+unfoldable pub heldReasons : ℕ → List ℕ
+heldReasons n = table (λ t. cond (ltb t n) 7 0) 64

@@ -5,8 +5,9 @@ ghost use mathlib.Core.Path.{_≡_};
 ghost use mathlib.Core.Bool.{_&&_, cond};
 ghost use lib.Dec.{eqb};
 ghost use Rattle.sets.specs.Sets.{Within, Apart};
-ghost use Rattle.choice.specs.Choice.{ripe, reason, takes, choosing, reasonsOf};
+ghost use Rattle.choice.specs.Choice.{ripe, reason, takes, choosing, reasonsOf, heldReasons};
 use reasons::CLAIMED;
+use reasons::HOLD;
 use reasons::NOT_ACTIVE;
 use reasons::OCCUPIED;
 use reasons::SIGNAL;
@@ -134,7 +135,7 @@ fn taking_if(choice: Choice, t: usize, sources: u64, targets: u64, why: u8) -> C
     choice
 }
 
-// Of each transition in number order, after those taken before it.
+// Of each transition in number order, after those taken before it, of a run that is not held.
 pub fn explain<'a>(
     n: usize,
     sources: &'a [u64; 64],
@@ -147,7 +148,7 @@ pub fn explain<'a>(
     signals: u64,
     reasons: &mut [u8; 64],
 )
-    ensures { λ _. ⌜ now (reasons .exit) ≡ reasonsOf n (now (sources .entry)) (now (targets .entry)) (now (on .entry)) (now (off .entry)) (now (wait .entry)) (now (counts .entry)) active signals ⌝ }
+    ensures { λ _. ⌜ now (reasons .exit) ≡ reasonsOf 0 n (now (sources .entry)) (now (targets .entry)) (now (on .entry)) (now (off .entry)) (now (wait .entry)) (now (counts .entry)) active signals ⌝ }
 {
     *reasons = [0; 64];
     let mut choice = Choice {
@@ -171,6 +172,19 @@ pub fn explain<'a>(
         );
         reasons[t] = why;
         choice = taking_if(choice, t, sources[t], targets[t], why);
+        t += 1;
+    }
+}
+
+// Of a run that is held (document 02, request vii): no transition is looked at.
+pub fn hold_all(n: usize, reasons: &mut [u8; 64])
+    ensures { λ _. ⌜ now (reasons .exit) ≡ heldReasons n ⌝ }
+{
+    *reasons = [0; 64];
+    let all = chart::at_most(n, 64);
+    let mut t = 0;
+    while t < all {
+        reasons[t] = HOLD;
         t += 1;
     }
 }

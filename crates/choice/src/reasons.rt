@@ -1,4 +1,4 @@
-// Document 02's reasons why a transition is not taken (request vi), in their order; 0 is taken.
+// Document 02's reasons why a transition is not taken (request vi), in their order; 0 is taken. Hold (request vii) comes before all of them.
 pub const NOT_ACTIVE: u8 = 1;
 
 pub const USED: u8 = 2;
@@ -10,3 +10,5 @@ pub const WAIT: u8 = 4;
 pub const OCCUPIED: u8 = 5;
 
 pub const CLAIMED: u8 = 6;
+
+pub const HOLD: u8 = 7;

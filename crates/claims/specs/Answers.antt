@@ -23,7 +23,7 @@ use Rattle.reader.specs.declared.reading.Reading.{Reading}
 use Rattle.reader.proofs.framing.Laws.{is-record}
 use Rattle.reader.proofs.reading.Accepted.{read-accepted, read-refused}
 use Rattle.run.specs.Run.{noRun}
-use Rattle.run.specs.Belongs.{belongs}
+use Rattle.run.specs.Belongs.{belongs, ownCode}
 use Rattle.run.specs.declared.run.Run.{Run}
 use Rattle.passes.specs.Time.{elapsed}
 use Rattle.passes.specs.Outputs.{outputsOf}
@@ -32,13 +32,15 @@ use Rattle.passes.specs.Explaining.{noReasons}
 use Rattle.cycle.specs.declared.cycling.Cycled.{Cycled}
 use Rattle.cycle.proofs.cycling.Kept.{start-refused, cycle-refused}
 use Rattle.cycle.proofs.cycling.Laws.{few, enough, stops, goes-on, too-late, in-time}
+use Rattle.key.specs.Turning.{markOf, marked, turnOf}
+use Rattle.key.specs.declared.turning.Turned.{Turned}
 use Rattle.trace.specs.Tracing.{recordFits, traceNumber}
-use Rattle.tally.specs.Tallying.{tallyCode, tallyOf}
+use Rattle.tally.specs.Tallying.{tallyOf}
 use Rattle.tally.specs.Weighing.{balanced, unbalancedIn, weighCode, refused, weighed, weighOf}
 use Rattle.tally.specs.declared.tallying.Tallied.{Tallied}
 use Rattle.tally.specs.declared.weighing.Weighed.{Weighed}
 use Rattle.tally.proofs.weighing.Laws.{weights-refused, balance-refused, accepted}
-use Rattle.claims.specs.Numbers.{record-each, read-each, start-each, cycle-each, tally-each, weigh-each, trace-each, start-code, start-reasons, cycle-code, tally-code, weigh-code, tally-refused, weigh-refused, weigh-names, all-balanced, first-unbalanced, left-alone, front-written, rest-kept}
+use Rattle.claims.specs.Numbers.{record-each, read-each, start-each, cycle-each, key-each, tally-each, weigh-each, trace-each, start-code, start-reasons, cycle-code, key-code, key-refused, key-accepted, tally-code, weigh-code, tally-refused, weigh-refused, weigh-names, all-balanced, first-unbalanced, left-alone, front-written, rest-kept}
 
 -- ---- the numbers
 
@@ -67,9 +69,9 @@ startNumbers = 15 ∷ chartNumbers
 abbrev pub cycleNumbers : List ℕ
 cycleNumbers = 15 ∷ chartNumbers ++ (12 ∷ 11 ∷ [])
 
--- "the tally chart, 12"
-abbrev pub tallyNumbers : List ℕ
-tallyNumbers = chartNumbers ++ (12 ∷ [])
+-- "the tally [tests] chart, 12"; document 02, request (vii): "setting and clearing test chart, then 12"
+abbrev pub ownNumbers : List ℕ
+ownNumbers = chartNumbers ++ (12 ∷ [])
 
 -- "the weighing chart, 13, 14"
 abbrev pub weighingNumbers : List ℕ
@@ -86,7 +88,8 @@ pub record Numbered : Type 0 where
   pub chart : (c : Chart) → oneOf (0 ∷ chartNumbers) (chartCode c) ≡ true
   pub start : (c : Chart) (clock lent : ℕ) → oneOf (0 ∷ startNumbers) (startOf c clock lent .code) ≡ true
   pub cycle : (c : Chart) (r : Run) (clock inputs lent : ℕ) → oneOf (0 ∷ cycleNumbers) (cycleOf c r clock inputs lent .code) ≡ true
-  pub tally : (c : Chart) (r : Run) → oneOf (0 ∷ tallyNumbers) (tallyOf c r .code) ≡ true
+  pub key : (held : Bool) (c : Chart) (r : Run) → oneOf (0 ∷ ownNumbers) (turnOf held c r .code) ≡ true
+  pub tally : (c : Chart) (r : Run) → oneOf (0 ∷ ownNumbers) (tallyOf c r .code) ≡ true
   pub weighing : (c : Chart) (weights : List ℕ) → oneOf (0 ∷ weighingNumbers) (weighOf c weights .code) ≡ true
   pub trace : (s : List ℕ) (at : ℕ) → oneOf (0 ∷ traceNumbers) (traceNumber s at) ≡ true
 
@@ -97,7 +100,8 @@ numbered = record {
   chart = chart-each (λ n. oneOf (0 ∷ chartNumbers) n ≡ true) refl refl refl refl refl refl refl;
   start = start-each (λ n. oneOf (0 ∷ startNumbers) n ≡ true) refl refl refl refl refl refl refl refl;
   cycle = cycle-each (λ n. oneOf (0 ∷ cycleNumbers) n ≡ true) refl refl refl refl refl refl refl refl refl refl;
-  tally = tally-each (λ n. oneOf (0 ∷ tallyNumbers) n ≡ true) refl refl refl refl refl refl refl refl;
+  key = key-each (λ n. oneOf (0 ∷ ownNumbers) n ≡ true) refl refl refl refl refl refl refl refl;
+  tally = tally-each (λ n. oneOf (0 ∷ ownNumbers) n ≡ true) refl refl refl refl refl refl refl refl;
   weighing = weigh-each (λ n. oneOf (0 ∷ weighingNumbers) n ≡ true) refl refl refl refl refl refl refl refl refl;
   trace = trace-each (λ n. oneOf (0 ∷ traceNumbers) n ≡ true) refl refl;
 }
@@ -199,6 +203,27 @@ cycle-answers c r clock inputs out =
       no-others = rest-kept c o out;
     }
 
+-- the key turned answers o; "refused return the run as given"
+pub record KeyAnswer (held : Bool) (c : Chart) (r : Run) (o : Turned) : Type 0 where
+  pub bad-chart : (chartCode c ≡ 0 → ⊥) → o .code ≡ chartCode c
+  pub other-run : chartCode c ≡ 0 → belongs c r ≡ false → o .code ≡ 12
+  pub accepted : chartCode c ≡ 0 → belongs c r ≡ true → o .code ≡ 0
+  pub same-run : (o .code ≡ 0 → ⊥) → o .run ≡ r
+  pub mark : o .code ≡ 0 → o .run ≡ marked (markOf held) r
+
+pub key-answers : (held : Bool) (c : Chart) (r : Run) → KeyAnswer held c r (turnOf held c r)
+key-answers held c r =
+    let o = turnOf held c r in
+    let n : o .code ≡ ownCode c r = key-code held c r in
+    let own : ℕ = unless (belongs c r) 12 in
+    record {
+      bad-chart = λ z. n ∙ sym (stops (chartCode c) own z);
+      other-run = λ e f. n ∙ sym (goes-on (chartCode c) own e) ∙ ap (λ (b : Bool). unless b 12) f;
+      accepted = λ e f. n ∙ sym (goes-on (chartCode c) own e) ∙ ap (λ (b : Bool). unless b 12) f;
+      same-run = λ z. ap (λ (o : Turned). o .run) (key-refused held c r z);
+      mark = key-accepted held c r;
+    }
+
 -- a tally of the run r answers o
 pub record TallyAnswer (c : Chart) (r : Run) (o : Tallied) : Type 0 where
   pub bad-chart : (chartCode c ≡ 0 → ⊥) → o .code ≡ chartCode c
@@ -209,7 +234,7 @@ pub record TallyAnswer (c : Chart) (r : Run) (o : Tallied) : Type 0 where
 pub tally-answers : (c : Chart) (r : Run) → TallyAnswer c r (tallyOf c r)
 tally-answers c r =
     let o = tallyOf c r in
-    let n : o .code ≡ tallyCode c r = tally-code c r in
+    let n : o .code ≡ ownCode c r = tally-code c r in
     let own : ℕ = unless (belongs c r) 12 in
     record {
       bad-chart = λ z. n ∙ sym (stops (chartCode c) own z);

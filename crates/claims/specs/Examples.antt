@@ -29,6 +29,7 @@ use Rattle.passes.specs.Outputs.{first, outputsOf}
 use Rattle.cycle.specs.Cycling.{startOf, cycleOf, outputsAfter}
 use Rattle.cycle.specs.declared.cycling.Cycled.{Cycled}
 use Rattle.cycle.specs.Calling.{singly}
+use Rattle.key.specs.Turning.{marked, turnOf}
 use Rattle.shift.specs.Shifting.{Done, shiftOf}
 use Rattle.tally.specs.Tallying.{tallyOf}
 use Rattle.tally.specs.Weighing.{weightIn, unbalanced, weighOf}
@@ -150,6 +151,55 @@ pub record Waiting : Type 0 where
 pub waiting : Waiting
 unfolding chartA all some summed firstCode tableFrom turns collect recordNumber transitionCode bodyAt stepsCode actionsCode transitionsCode blocksCode casesCode someInitial timedFor timedTwice heldCode readFrom reason chosen reasonsOf marksOf initialSet asked acted
 waiting = record { wait = refl; claimed = refl; occupied = refl; used = refl; signal = refl; late = refl }
+
+-- document 02, request (vii): chart A held in step 1 from 1010 on, a cycle under hold at 1600, and released; its step has then been active for 0 ms
+abbrev heldRun : Chart → Run → Run
+heldRun c r = turnOf true c r .run
+
+abbrev freed : Chart → Run → Run
+freed c r = turnOf false c r .run
+
+abbrev aHeld : Cycled
+aHeld = then a (heldRun a (a1 .run)) 1600 2
+
+-- one initial step with a timed block, held from the start on, and a cycle under hold at this clock
+abbrev timedHeld : ℕ → ℕ → ℕ → Cycled
+timedHeld qualifier duration clock = then (timed qualifier duration) (heldRun (timed qualifier duration) (began (timed qualifier duration) 0)) clock 0
+
+pub record Holding : Type 0 where
+  pub none-taken : aHeld .taken ≡ 0
+  pub sevens : aHeld .reasons ≡ reasonsFrom (7 ∷ 7 ∷ []) 62
+  pub as-usual : aHeld .run .activity ≡ 3
+  pub not-run : tallyOf a (aHeld .run) ≡ record { code = 0; passed = 0; failed = 0; notrun = 1 }
+  pub clock-kept : aHeld .run .clock ≡ 1600
+  pub stood : then a (freed a (aHeld .run)) 2099 2 .taken ≡ 0
+  pub waited : then a (freed a (aHeld .run)) 2100 2 .taken ≡ 2
+  pub held-twice : turnOf true a (aHeld .run) .code ≡ 0
+  pub other-mark : turnOf false a (marked 2 (a1 .run)) .code ≡ 12
+  pub late : then a (heldRun a (a1 .run)) 61011 2 .code ≡ 11
+  pub limited : timedHeld L 100 100 .run .activity ≡ 1
+  pub delayed : timedHeld D 100 100 .run .activity ≡ 0
+  pub stored-delayed : timedHeld SD 100 100 .run .activity ≡ 1
+  pub stored-limited : timedHeld SL 100 100 .run .activity ≡ 0
+
+pub holding : Holding
+unfolding chartA all some summed firstCode tableFrom turns collect recordNumber transitionCode bodyAt stepsCode actionsCode transitionsCode blocksCode casesCode someInitial timedFor timedTwice heldCode readFrom reason chosen reasonsOf marksOf initialSet asked acted
+holding = record {
+  none-taken = refl;
+  sevens = refl;
+  as-usual = refl;
+  not-run = refl;
+  clock-kept = refl;
+  stood = refl;
+  waited = refl;
+  held-twice = refl;
+  other-mark = refl;
+  late = refl;
+  limited = refl;
+  delayed = refl;
+  stored-delayed = refl;
+  stored-limited = refl;
+}
 
 -- idle (initial), pressurising, venting, recording, recorded: docs/ASSESSOR.md weighs this chart by hand
 abbrev brake : Chart

@@ -1,7 +1,7 @@
 -- What one answer does to the active steps: all that the ledger and the weights rely on.
 use Prim.Native.Nat.{ℕ, _+_, _≤_, _<_}
 use mathlib.Core.Bool.{Bool, true, false, cond}
-use mathlib.Core.Path.{_≡_, refl}
+use mathlib.Core.Path.{_≡_, refl, sym, ap, _∙_}
 use lib.Dec.{leb, eqb}
 use borrow.Author.Tests.{eqb-true, eqb-false}
 use Rattle.sets.specs.Sets.{has}
@@ -12,15 +12,17 @@ use Rattle.chart.specs.Held.{chartCode}
 use Rattle.chart.specs.Initial.{initialSet}
 use Rattle.chart.specs.declared.chart.Chart.{Chart}
 use Rattle.chart.proofs.held.Sound.{sound}
+use Rattle.choice.specs.Choice.{noneTaken}
 use Rattle.run.specs.Run.{noRun}
+use Rattle.run.specs.Belongs.{ownCode}
 use Rattle.run.specs.declared.run.Run.{Run}
-use Rattle.passes.specs.Time.{elapsed, grownCounts}
 use Rattle.passes.specs.Moving.{signalsOf}
-use Rattle.cycle.specs.Cycling.{refused, startCode, cycleCode, started, startOf, choiceOf, cycled}
+use Rattle.cycle.specs.Cycling.{refused, startCode, cycleCode, started, startOf, countsAt, choiceOf, cycled}
 use Rattle.cycle.specs.declared.cycling.Cycled.{Cycled}
 use Rattle.cycle.proofs.cycling.Laws.{cycle-passed}
-use Rattle.claims.specs.Moves.{among, chosen-is, moved}
-use Rattle.claims.specs.Runs.{Call, answer, begun, one}
+use Rattle.key.specs.Turning.{markOf, marked, turnedAs, turnOf}
+use Rattle.claims.specs.Moves.{among, Chosen, none-is, choice-is, moved}
+use Rattle.claims.specs.Runs.{Call, cycle, turn, keyed, answer, begun, one}
 
 -- an answer o to a call that was given the run r: accepted, each step is entered and left by the taken transitions as its activity
 -- changes; refused, the run is the one that was given; and what is taken is a transition of the chart, so that the history has it
@@ -37,18 +39,34 @@ fair-refused c r code z = record { accepted = λ e. absurd (z e); back = λ e. r
 -- an accepted cycle moves as its chosen transitions say
 fair-cycled : (c : Chart) (r : Run) (clock inputs : ℕ) → c .transitions ≤ 64 → Fair c r (cycled c r clock inputs)
 fair-cycled c r clock inputs h =
-    let counts = grownCounts (r .counters) (r .active) (elapsed (r .clock) clock) in
+    let counts = countsAt r clock in
     let signals = signalsOf inputs (r .activity) in
-    let i = chosen-is (c .transitions) (c .sources) (c .targets) (c .on) (c .off) (c .wait) counts (r .active) signals h in
+    let i = choice-is c r counts signals h in
     record {
       accepted = λ e. moved (c .sources) (c .targets) (r .active) (c .transitions) (choiceOf c r counts signals) i;
       back = λ z. absurd (z refl);
       existing = i .new;
     }
 
--- every answer of the cycle is so, whatever the chart, the run and the call
+-- the key, accepted, leaves the active steps as they are and takes nothing; refused, it returns the run
+fair-keyed : (held : Bool) (c : Chart) (r : Run) → Fair c r (keyed (turnOf held c r))
+fair-keyed held c r = go (eqb (ownCode c r) 0) refl
+  where
+    i : Chosen (c .sources) (c .targets) (r .active) (c .transitions) noneTaken
+    i = none-is (c .transitions) (c .sources) (c .targets) (r .active)
+
+    go : (b : Bool) → eqb (ownCode c r) 0 ≡ b → Fair c r (keyed (cond b (turnedAs 0 (marked (markOf held) r)) (turnedAs (ownCode c r) r)))
+    go true e = record {
+      accepted = λ z k l. ap (λ (n : ℕ). n + one (has (r .active) k)) (i .enters k l ∙ sym (i .leaves k l));
+      back = λ z. absurd (z refl);
+      existing = i .new;
+    }
+    go false e = fair-refused c r (ownCode c r) (eqb-false _ 0 e)
+
+-- every answer is so, whatever the chart, the run and the call
 pub fair : (c : Chart) (r : Run) (x : Call) → Fair c r (answer c r x)
-fair c r x = go (eqb (cycleCode c r (x .clock) (x .lent)) 0) refl
+fair c r (turn held) = fair-keyed held c r
+fair c r (cycle x) = go (eqb (cycleCode c r (x .clock) (x .lent)) 0) refl
   where
     go : (b : Bool) → eqb (cycleCode c r (x .clock) (x .lent)) 0 ≡ b
         → Fair c r (cond b (cycled c r (x .clock) (x .inputs)) (refused (cycleCode c r (x .clock) (x .lent)) r))

@@ -7,6 +7,7 @@ pub mod Moves
 pub mod Numbers
 pub mod Pulses
 pub mod Reasons
+pub mod Held
 pub mod Runs
 pub mod Shifts
 pub mod Sums

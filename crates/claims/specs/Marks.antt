@@ -18,15 +18,16 @@ use Rattle.chart.specs.Held.{chartCode}
 use Rattle.chart.specs.declared.chart.Chart.{Chart}
 use Rattle.chart.proofs.held.Sound.{sound}
 use Rattle.run.specs.Run.{noRun}
-use Rattle.run.specs.Belongs.{belongs}
+use Rattle.run.specs.Belongs.{belongs, ownCode}
 use Rattle.run.specs.declared.run.Run.{Run}
-use Rattle.passes.specs.Time.{elapsed, grownCounts}
 use Rattle.passes.specs.Moving.{signalsOf, asExpected, marksOf}
-use Rattle.cycle.specs.Cycling.{refused, startCode, cycleCode, started, startOf, choiceOf, cycled}
+use Rattle.cycle.specs.Cycling.{refused, startCode, cycleCode, started, startOf, countsAt, choiceOf, cycled}
 use Rattle.cycle.specs.declared.cycling.Cycled.{Cycled}
 use Rattle.cycle.proofs.cycling.Kept.{cycle-keeps}
-use Rattle.claims.specs.Runs.{Call, answer, after, begun, one}
-use Rattle.claims.specs.Moves.{chosen-is}
+use Rattle.key.specs.Turning.{markOf, marked, turnedAs}
+use Rattle.key.proofs.turning.Laws.{key-keeps}
+use Rattle.claims.specs.Runs.{Call, cycle, turn, keyed, answer, inputsOf, after, begun, one}
+use Rattle.claims.specs.Moves.{choice-is}
 
 -- ---- the marks x and y of a case, in terms of how its step was left: a at all, g with the signal as expected, b with it otherwise
 
@@ -98,7 +99,7 @@ module _ (c : Chart) (passes : chartCode c ≡ 0) (i : ℕ) (l : i < c .cases) w
   left-is : (r : Run) (counts : List ℕ) (signals : ℕ) → ran (choiceOf c r counts signals .taken) ≡ has (choiceOf c r counts signals .left) step
   left-is r counts signals =
       some-is _ (c .transitions) (has (choiceOf c r counts signals .left) step)
-      (chosen-is (c .transitions) (c .sources) (c .targets) (c .on) (c .off) (c .wait) counts (r .active) signals (sound c passes .limits .transitions) .leaves step in-step)
+      (choice-is c r counts signals (sound c passes .limits .transitions) .leaves step in-step)
 
   -- what a call adds to the case's marks: to one if its step was left with the signal as expected, to the other if with it otherwise
   pub record Marked (r : Run) (signals : ℕ) (o : Cycled) : Type 0 where
@@ -114,28 +115,33 @@ module _ (c : Chart) (passes : chartCode c ≡ 0) (i : ℕ) (l : i < c .cases) w
   unfolding marksOf
   accepted-marks r clock inputs =
       let signals = signalsOf inputs (r .activity) in
-      let e = sym (left-is r (grownCounts (r .counters) (r .active) (elapsed (r .clock) clock)) signals) in
+      let e = sym (left-is r (countsAt r clock) signals) in
       record {
         good = added (r .good) _ ∙ ap (λ (b : Bool). has (r .good) i || b && fine signals) e;
         bad = added (r .bad) _ ∙ ap (λ (b : Bool). has (r .bad) i || b && not (fine signals)) e;
       }
 
-  -- of a refused one, which takes no transition and hands the run back
-  refused-marks : (r : Run) (signals code : ℕ) → Marked r signals (refused code r)
-  refused-marks r signals code =
+  -- of one that takes no transition and leaves the marks as they are: a refused one, and the key
+  still-marks : (r : Run) (signals : ℕ) (o : Cycled) → o .taken ≡ 0 → o .run .good ≡ r .good → o .run .bad ≡ r .bad → Marked r signals o
+  still-marks r signals o n g b =
       let e : ran 0 ≡ false = some-none (λ t. has 0 t && has (getD (c .sources) t 0) step) (c .transitions) (λ t. ap (λ (b : Bool). b && has (getD (c .sources) t 0) step) (has-zero t)) in
       record {
-        good = sym (ap (λ (b : Bool). has (r .good) i || b && fine signals) e ∙ or-false (has (r .good) i));
-        bad = sym (ap (λ (b : Bool). has (r .bad) i || b && not (fine signals)) e ∙ or-false (has (r .bad) i));
+        good = rw (n, g) (sym (ap (λ (b : Bool). has (r .good) i || b && fine signals) e ∙ or-false (has (r .good) i)));
+        bad = rw (n, b) (sym (ap (λ (b : Bool). has (r .bad) i || b && not (fine signals)) e ∙ or-false (has (r .bad) i)));
       }
 
   -- and so of any
-  pub marks : (r : Run) (x : Call) → Marked r (signalsOf (x .inputs) (r .activity)) (answer c r x)
-  marks r x = go (eqb (cycleCode c r (x .clock) (x .lent)) 0)
+  pub marks : (r : Run) (x : Call) → Marked r (signalsOf (inputsOf x) (r .activity)) (answer c r x)
+  marks r (turn held) = go (eqb (ownCode c r) 0)
+    where
+      go : (b : Bool) → Marked r (signalsOf 0 (r .activity)) (keyed (cond b (turnedAs 0 (marked (markOf held) r)) (turnedAs (ownCode c r) r)))
+      go true = still-marks r (signalsOf 0 (r .activity)) _ refl refl refl
+      go false = still-marks r (signalsOf 0 (r .activity)) _ refl refl refl
+  marks r (cycle x) = go (eqb (cycleCode c r (x .clock) (x .lent)) 0)
     where
       go : (b : Bool) → Marked r (signalsOf (x .inputs) (r .activity)) (cond b (cycled c r (x .clock) (x .inputs)) (refused (cycleCode c r (x .clock) (x .lent)) r))
       go true = accepted-marks r (x .clock) (x .inputs)
-      go false = refused-marks r (signalsOf (x .inputs) (r .activity)) (cycleCode c r (x .clock) (x .lent))
+      go false = still-marks r (signalsOf (x .inputs) (r .activity)) (refused (cycleCode c r (x .clock) (x .lent)) r) refl refl refl
 
 -- ---- an accepted start, and the calls after it
 
@@ -164,4 +170,5 @@ start-unmarked c clock lent i = go (eqb (startCode c lent) 0)
 pub after-belongs : (c : Chart) (r : Run) (xs : List Call) → belongs c r ≡ true → belongs c (after c r xs) ≡ true
 unfolding after
 after-belongs c r [] h = h
-after-belongs c r (x ∷ xs) h = after-belongs c (answer c r x .run) xs (cycle-keeps c r (x .clock) (x .inputs) (x .lent) h)
+after-belongs c r (cycle x ∷ xs) h = after-belongs c (answer c r (cycle x) .run) xs (cycle-keeps c r (x .clock) (x .inputs) (x .lent) h)
+after-belongs c r (turn held ∷ xs) h = after-belongs c (answer c r (turn held) .run) xs (key-keeps held c r h)

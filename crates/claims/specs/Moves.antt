@@ -13,10 +13,13 @@ use Rattle.sets.proofs.Loops.{or-false}
 use Rattle.sets.proofs.Members.{has-collect, collect-lt, has-high, has-zero}
 use Rattle.sets.proofs.Below.{has-union, has-minus, within-has, apart-has, either, never}
 use Rattle.sets.proofs.Counts.{counted-same}
-use Rattle.choice.specs.Choice.{reason, takes, choosingAt, noneTaken, chosen}
+use Rattle.choice.specs.Choice.{reason, takes, choosingAt, noneTaken, chosen, held}
 use Rattle.choice.specs.declared.Choice.{Choice}
 use Rattle.choice.proofs.Laws.{Free, taken-free}
+use Rattle.chart.specs.declared.chart.Chart.{Chart}
+use Rattle.run.specs.declared.run.Run.{Run}
 use Rattle.passes.specs.Choosing.{movedTo}
+use Rattle.cycle.specs.Cycling.{choiceOf}
 use Rattle.claims.specs.Runs.{one}
 
 -- how many of the first n transitions in the set s have step k among those of the table l
@@ -139,6 +142,20 @@ chosen-is (suc n) sources targets on off wait counts active signals h =
         take sources targets active n now (omega arith) i
         (taken-free now f g (getD on n 0) (getD off n 0) (getD wait n 0) counts active signals e)
     go false e i = pass sources targets active n now i
+
+-- none is, of any number of transitions
+pub none-is : (n : ℕ) (sources targets : List ℕ) (active : ℕ) → Chosen sources targets active n noneTaken
+none-is zero sources targets active = start sources targets active
+none-is (suc n) sources targets active = pass sources targets active n noneTaken (none-is n sources targets active)
+
+-- what a cycle chooses is so, under hold too
+pub choice-is : (c : Chart) (r : Run) (counts : List ℕ) (signals : ℕ) → c .transitions ≤ 64 → Chosen (c .sources) (c .targets) (r .active) (c .transitions) (choiceOf c r counts signals)
+choice-is c r counts signals h = go (held (r .hold))
+  where
+    go : (b : Bool) → Chosen (c .sources) (c .targets) (r .active) (c .transitions)
+        (cond b noneTaken (chosen (c .transitions) (c .sources) (c .targets) (c .on) (c .off) (c .wait) counts (r .active) signals))
+    go true = none-is (c .transitions) (c .sources) (c .targets) (r .active)
+    go false = chosen-is (c .transitions) (c .sources) (c .targets) (c .on) (c .off) (c .wait) counts (r .active) signals h
 
 -- ---- the move
 

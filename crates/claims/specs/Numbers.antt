@@ -23,7 +23,7 @@ use Rattle.reader.specs.declared.bodies.Body.{Body}
 use Rattle.reader.specs.declared.bodies.Body.the-variants.{Step, Action, Transition, Block, Case}
 use Rattle.reader.specs.declared.reading.Reading.{Reading}
 use Rattle.run.specs.Run.{noRun}
-use Rattle.run.specs.Belongs.{belongs}
+use Rattle.run.specs.Belongs.{belongs, ownCode}
 use Rattle.run.specs.declared.run.Run.{Run}
 use Rattle.passes.specs.Time.{elapsed}
 use Rattle.passes.specs.Outputs.{outputsOf}
@@ -32,7 +32,9 @@ use Rattle.passes.specs.Explaining.{noReasons}
 use Rattle.cycle.specs.declared.cycling.Cycled.{Cycled}
 use Rattle.passes.proofs.outputs.Laws.{outputs-length}
 use Rattle.trace.specs.Tracing.{isOver, recordFits, traceNumber}
-use Rattle.tally.specs.Tallying.{countsOf, refused as uncounted, tallyCode, tallyOf}
+use Rattle.key.specs.Turning.{markOf, marked, turnedAs, turnOf}
+use Rattle.key.specs.declared.turning.Turned.{Turned}
+use Rattle.tally.specs.Tallying.{countsOf, refused as uncounted, tallyOf}
 use Rattle.tally.specs.Weighing.{balanced, unbalanced, unbalancedIn, weighCode, refused as unweighed, weighed, weighOf}
 use Rattle.tally.specs.declared.tallying.Tallied.{Tallied}
 use Rattle.tally.specs.declared.weighing.Weighed.{Weighed}
@@ -71,15 +73,25 @@ pub cycle-code : (c : Chart) (r : Run) (clock inputs lent : ℕ) → cycleOf c r
 cycle-code c r clock inputs lent =
     picked (λ (o : Cycled). o .code) (cycleCode c r clock lent) (cycled c r clock inputs) (turned-away (cycleCode c r clock lent) r) refl refl
 
-pub tally-code : (c : Chart) (r : Run) → tallyOf c r .code ≡ tallyCode c r
-tally-code c r = picked (λ (o : Tallied). o .code) (tallyCode c r) (countsOf (c .cases) (r .good) (r .bad)) (uncounted (tallyCode c r)) refl refl
+pub key-code : (held : Bool) (c : Chart) (r : Run) → turnOf held c r .code ≡ ownCode c r
+key-code held c r = picked (λ (o : Turned). o .code) (ownCode c r) (turnedAs 0 (marked (markOf held) r)) (turnedAs (ownCode c r) r) refl refl
+
+pub tally-code : (c : Chart) (r : Run) → tallyOf c r .code ≡ ownCode c r
+tally-code c r = picked (λ (o : Tallied). o .code) (ownCode c r) (countsOf (c .cases) (r .good) (r .bad)) (uncounted (ownCode c r)) refl refl
 
 pub weigh-code : (c : Chart) (weights : List ℕ) → weighOf c weights .code ≡ weighCode c weights
 weigh-code c weights = picked (λ (o : Weighed). o .code) (weighCode c weights) (weighed c weights) (unweighed (weighCode c weights) _) refl refl
 
+-- the key refused returns the run as given, and accepted the run with its mark
+pub key-refused : (held : Bool) (c : Chart) (r : Run) → (turnOf held c r .code ≡ 0 → ⊥) → turnOf held c r ≡ turnedAs (ownCode c r) r
+key-refused held c r = refused-one (λ (o : Turned). o .code) (ownCode c r) (turnedAs 0 (marked (markOf held) r)) (turnedAs (ownCode c r) r) refl
+
+pub key-accepted : (held : Bool) (c : Chart) (r : Run) → turnOf held c r .code ≡ 0 → turnOf held c r .run ≡ marked (markOf held) r
+key-accepted held c r e = rw (sym (key-code held c r) ∙ e)
+
 -- a refused tally has three zeros, and a refused weighing total 0
-pub tally-refused : (c : Chart) (r : Run) → (tallyOf c r .code ≡ 0 → ⊥) → tallyOf c r ≡ uncounted (tallyCode c r)
-tally-refused c r = refused-one (λ (o : Tallied). o .code) (tallyCode c r) (countsOf (c .cases) (r .good) (r .bad)) (uncounted (tallyCode c r)) refl
+pub tally-refused : (c : Chart) (r : Run) → (tallyOf c r .code ≡ 0 → ⊥) → tallyOf c r ≡ uncounted (ownCode c r)
+tally-refused c r = refused-one (λ (o : Tallied). o .code) (ownCode c r) (countsOf (c .cases) (r .good) (r .bad)) (uncounted (ownCode c r)) refl
 
 pub weigh-refused : (c : Chart) (weights : List ℕ) → (weighOf c weights .code ≡ 0 → ⊥) → weighOf c weights .total ≡ 0
 weigh-refused c weights z =
@@ -118,17 +130,23 @@ module _ (P : ℕ → Type 0) where
     pub start-each : P 15 → (c : Chart) (clock lent : ℕ) → P (startOf c clock lent .code)
     start-each p15 c clock lent = rw (start-code c clock lent) (else-each P _ _ (either P (leb 32 lent) 0 15 p0 p15) (chart-each P p0 p4 p5 p6 p7 p9 p8 c))
 
+    pub own-each : P 12 → (c : Chart) (r : Run) → P (ownCode c r)
+    own-each p12 c r = else-each P _ _ (chart-each P p0 p4 p5 p6 p7 p9 p8 c) (either P (belongs c r) 0 12 p0 p12)
+
     pub ready-each : P 15 → P 12 → (c : Chart) (r : Run) (lent : ℕ) → P (readyCode c r lent)
     ready-each p15 p12 c r lent =
-        else-each P _ _ (either P (leb 32 lent) 0 15 p0 p15) (else-each P _ _ (chart-each P p0 p4 p5 p6 p7 p9 p8 c) (either P (belongs c r) 0 12 p0 p12))
+        else-each P _ _ (either P (leb 32 lent) 0 15 p0 p15) (own-each p12 c r)
 
     pub cycle-each : P 15 → P 12 → P 11 → (c : Chart) (r : Run) (clock inputs lent : ℕ) → P (cycleOf c r clock inputs lent .code)
     cycle-each p15 p12 p11 c r clock inputs lent =
         rw (cycle-code c r clock inputs lent)
         (else-each P (readyCode c r lent) (lateCode r clock) (ready-each p15 p12 c r lent) (either P (leb (elapsed (r .clock) clock) 60000) 0 11 p0 p11))
 
+    pub key-each : P 12 → (held : Bool) (c : Chart) (r : Run) → P (turnOf held c r .code)
+    key-each p12 held c r = rw (key-code held c r) (own-each p12 c r)
+
     pub tally-each : P 12 → (c : Chart) (r : Run) → P (tallyOf c r .code)
-    tally-each p12 c r = rw (tally-code c r) (else-each P _ _ (chart-each P p0 p4 p5 p6 p7 p9 p8 c) (either P (belongs c r) 0 12 p0 p12))
+    tally-each p12 c r = rw (tally-code c r) (own-each p12 c r)
 
     pub weigh-each : P 13 → P 14 → (c : Chart) (weights : List ℕ) → P (weighOf c weights .code)
     weigh-each p13 p14 c weights =

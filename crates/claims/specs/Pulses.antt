@@ -20,7 +20,9 @@ use Rattle.run.specs.declared.run.Run.{Run}
 use Rattle.chart.specs.Chart.{chartOf}
 use Rattle.cycle.specs.Cycling.{startOf, cycleOf, outputsAfter}
 use Rattle.cycle.specs.declared.cycling.Cycled.{Cycled}
-use Rattle.claims.specs.Runs.{Call, answer, after}
+use Rattle.key.specs.Turning.{turnOf}
+use Rattle.key.specs.declared.turning.Turned.{Turned}
+use Rattle.claims.specs.Runs.{Call, cycle, turn, answer, after}
 
 -- P1 for P
 abbrev pub asP1 : ℕ → ℕ
@@ -84,6 +86,9 @@ module _ (c : Chart) where
   cycle-same : (r : Run) (clock inputs lent : ℕ) → cycleOf (withP1 c) r clock inputs lent ≡ cycleOf c r clock inputs lent
   cycle-same r clock inputs lent = rw (test-same, asked-same (c .qualifier) (c .blocks) (c .blockstep) (c .blockaction) (c .duration) _ _ _)
 
+  key-same : (held : Bool) (r : Run) → turnOf held (withP1 c) r ≡ turnOf held c r
+  key-same held r = rw test-same
+
 -- two charts that differ at most in P where the other has P1
 abbrev pub Alike : Chart → Chart → Type 0
 Alike c d = withP1 c ≡ withP1 d
@@ -108,8 +113,13 @@ module _ (c d : Chart) (alike : Alike c d) where
   pub outputs-alike : (o : Cycled) (out : List ℤ) → outputsAfter c o out ≡ outputsAfter d o out
   outputs-alike o out = ap (λ (x : Chart). outputsAfter x o out) alike
 
+  -- the key answers the same,
+  pub keys-alike : (held : Bool) (r : Run) → turnOf held c r ≡ turnOf held d r
+  keys-alike held r = sym (key-same c held r) ∙ ap (λ (x : Chart). turnOf held x r) alike ∙ key-same d held r
+
   -- and so is the run after any calls.
   pub runs-alike : (r : Run) (xs : List Call) → after c r xs ≡ after d r xs
   unfolding after
   runs-alike r [] = refl
-  runs-alike r (x ∷ xs) = ap (λ (o : Cycled). after c (o .run) xs) (cycles-alike r (x .clock) (x .inputs) (x .lent)) ∙ runs-alike (answer d r x .run) xs
+  runs-alike r (cycle x ∷ xs) = ap (λ (o : Cycled). after c (o .run) xs) (cycles-alike r (x .clock) (x .inputs) (x .lent)) ∙ runs-alike (answer d r (cycle x) .run) xs
+  runs-alike r (turn held ∷ xs) = ap (λ (o : Turned). after c (o .run) xs) (keys-alike held r) ∙ runs-alike (answer d r (turn held) .run) xs

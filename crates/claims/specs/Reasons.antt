@@ -13,21 +13,21 @@ use borrow.Author.Tests.{leb-true, leb-false, lt-ltb, le-ltb, eqb-true, eqb-fals
 use Rattle.sets.specs.Loops.{all, orElse, turns}
 use Rattle.sets.specs.Sets.{has, Within, Apart, insert}
 use Rattle.sets.proofs.Loops.{all-true, and-yes, or-true, or-false}
+use Rattle.sets.proofs.Members.{has-zero}
 use Rattle.sets.proofs.Below.{within-has, apart-has, never}
 use Rattle.fields.specs.Fields.{unless}
 use Rattle.chart.specs.declared.chart.Chart.{Chart}
 use Rattle.chart.proofs.held.Sound.{sound}
-use Rattle.choice.specs.Choice.{ripe, reason, takes, choosingAt, noneTaken, chosen, reasonAt, reasonsOf}
+use Rattle.choice.specs.Choice.{ripe, reason, takes, choosingAt, noneTaken, chosen, reasonAt, held, chosenUnder, reasonUnder, reasonsOf}
 use Rattle.choice.specs.declared.Choice.{Choice}
-use Rattle.choice.proofs.Laws.{taken-as-before, reason-most, reasons-at}
+use Rattle.choice.proofs.Laws.{taken-as-before, reason-under-most, reasons-at}
 use Rattle.run.specs.declared.run.Run.{Run}
-use Rattle.passes.specs.Time.{elapsed, grownCounts}
 use Rattle.passes.specs.Moving.{signalsOf}
-use Rattle.cycle.specs.Cycling.{refused, cycleCode, choiceOf, cycled}
+use Rattle.cycle.specs.Cycling.{refused, cycleCode, countsAt, cycled}
 use Rattle.passes.specs.Explaining.{noReasons}
 use Rattle.cycle.specs.declared.cycling.Cycled.{Cycled}
 use Rattle.cycle.proofs.cycling.Laws.{cycle-passed}
-use Rattle.claims.specs.Runs.{Call, answer}
+use Rattle.claims.specs.Runs.{Cycle, cycle, answer}
 use Rattle.claims.specs.Moves.{has-insert, chosen-is}
 
 -- P holds of every member of the set s
@@ -41,9 +41,10 @@ pub record Some (s : ℕ) (P : ℕ → Type 0) : Type 0 where
   pub within : has s member ≡ true
   pub holds : P member
 
--- what is looked at for a transition: its own fields, the counters, the active steps and the signals of the cycle's beginning, and the steps that
--- earlier transitions use and claim
+-- what is looked at for a transition: the hold mark, its own fields, the counters, the active steps and the signals of the cycle's beginning, and the
+-- steps that earlier transitions use and claim
 pub record Looked : Type 0 where
+  pub hold : ℕ
   pub sources : ℕ
   pub targets : ℕ
   pub on : ℕ
@@ -54,6 +55,13 @@ pub record Looked : Type 0 where
   pub signals : ℕ
   pub used : ℕ
   pub claimed : ℕ
+
+-- under hold, or not (document 02, request vii)
+abbrev pub Held : Looked → Type 0
+Held a = held (a .hold) ≡ true
+
+abbrev pub Unheld : Looked → Type 0
+Unheld a = held (a .hold) ≡ false
 
 -- the six tests
 abbrev pub Active : Looked → Type 0
@@ -74,16 +82,17 @@ Vacant a = Every (a .targets) (λ k. has (a .active) k ≡ false)
 abbrev pub Unclaimed : Looked → Type 0
 Unclaimed a = Every (a .targets) (λ k. has (a .claimed) k ≡ false)
 
--- what holds under each reason: the tests before it, and a step or a signal at which its own fails
+-- what holds under each reason: no hold, the tests before it, and a step or a signal at which its own fails; under 7, hold
 pub record Meaning (a : Looked) (why : ℕ) : Type 0 where
-  pub most : why ≤ 6
-  pub taken : why ≡ 0 → Active a × Unused a × Signalled a × Waited a × Vacant a × Unclaimed a
-  pub not-active : why ≡ 1 → Some (a .sources) (λ k. has (a .active) k ≡ false)
-  pub used : why ≡ 2 → Active a × Some (a .sources) (λ k. has (a .used) k ≡ true)
-  pub signal : why ≡ 3 → Active a × Unused a × (Some (a .on) (λ k. has (a .signals) k ≡ false) ⊎ Some (a .off) (λ k. has (a .signals) k ≡ true))
-  pub wait : why ≡ 4 → Active a × Unused a × Signalled a × Some (a .sources) (λ k. getD (a .counts) k 0 < a .wait)
-  pub occupied : why ≡ 5 → Active a × Unused a × Signalled a × Waited a × Some (a .targets) (λ k. has (a .active) k ≡ true)
-  pub claimed : why ≡ 6 → Active a × Unused a × Signalled a × Waited a × Vacant a × Some (a .targets) (λ k. has (a .claimed) k ≡ true)
+  pub most : why ≤ 7
+  pub taken : why ≡ 0 → Unheld a × Active a × Unused a × Signalled a × Waited a × Vacant a × Unclaimed a
+  pub not-active : why ≡ 1 → Unheld a × Some (a .sources) (λ k. has (a .active) k ≡ false)
+  pub used : why ≡ 2 → Unheld a × Active a × Some (a .sources) (λ k. has (a .used) k ≡ true)
+  pub signal : why ≡ 3 → Unheld a × Active a × Unused a × (Some (a .on) (λ k. has (a .signals) k ≡ false) ⊎ Some (a .off) (λ k. has (a .signals) k ≡ true))
+  pub wait : why ≡ 4 → Unheld a × Active a × Unused a × Signalled a × Some (a .sources) (λ k. getD (a .counts) k 0 < a .wait)
+  pub occupied : why ≡ 5 → Unheld a × Active a × Unused a × Signalled a × Waited a × Some (a .targets) (λ k. has (a .active) k ≡ true)
+  pub claimed : why ≡ 6 → Unheld a × Active a × Unused a × Signalled a × Waited a × Vacant a × Some (a .targets) (λ k. has (a .claimed) k ≡ true)
+  pub hold : why ≡ 7 → Held a
 
 -- ---- a test that fails, fails at a number
 
@@ -134,8 +143,9 @@ waited w s counts e k l h = leb-true w (getD counts k 0) (rw h at (all-true (λ 
 
 -- ---- one transition
 
-abbrev pub lookedAt : Choice → ℕ → ℕ → ℕ → ℕ → ℕ → List ℕ → ℕ → ℕ → Looked
-lookedAt ch s t on off w counts active signals = record {
+abbrev pub lookedAt : ℕ → Choice → ℕ → ℕ → ℕ → ℕ → ℕ → List ℕ → ℕ → ℕ → Looked
+lookedAt hold ch s t on off w counts active signals = record {
+  hold = hold;
   sources = s;
   targets = t;
   on = on;
@@ -148,45 +158,47 @@ lookedAt ch s t on off w counts active signals = record {
   claimed = ch .claimed;
 }
 
-module _ (ch : Choice) (s t on off w : ℕ) (counts : List ℕ) (active signals : ℕ) where
+module _ (hold : ℕ) (ch : Choice) (s t on off w : ℕ) (counts : List ℕ) (active signals : ℕ) where
   abbrev look : Looked
-  look = lookedAt ch s t on off w counts active signals
+  look = lookedAt hold ch s t on off w counts active signals
 
   -- what a reason by its number means
   Means : ℕ → Type 0
-  Means zero = Active look × Unused look × Signalled look × Waited look × Vacant look × Unclaimed look
-  Means (suc zero) = Some s (λ k. has active k ≡ false)
-  Means (suc (suc zero)) = Active look × Some s (λ k. has (ch .left) k ≡ true)
-  Means (suc (suc (suc zero))) = Active look × Unused look × (Some on (λ k. has signals k ≡ false) ⊎ Some off (λ k. has signals k ≡ true))
-  Means (suc (suc (suc (suc zero)))) = Active look × Unused look × Signalled look × Some s (λ k. getD counts k 0 < w)
-  Means (suc (suc (suc (suc (suc zero))))) = Active look × Unused look × Signalled look × Waited look × Some t (λ k. has active k ≡ true)
-  Means (suc (suc (suc (suc (suc (suc zero)))))) = Active look × Unused look × Signalled look × Waited look × Vacant look × Some t (λ k. has (ch .claimed) k ≡ true)
-  Means (suc (suc (suc (suc (suc (suc (suc n))))))) = ⊥
+  Means zero = Unheld look × Active look × Unused look × Signalled look × Waited look × Vacant look × Unclaimed look
+  Means (suc zero) = Unheld look × Some s (λ k. has active k ≡ false)
+  Means (suc (suc zero)) = Unheld look × Active look × Some s (λ k. has (ch .left) k ≡ true)
+  Means (suc (suc (suc zero))) = Unheld look × Active look × Unused look × (Some on (λ k. has signals k ≡ false) ⊎ Some off (λ k. has signals k ≡ true))
+  Means (suc (suc (suc (suc zero)))) = Unheld look × Active look × Unused look × Signalled look × Some s (λ k. getD counts k 0 < w)
+  Means (suc (suc (suc (suc (suc zero))))) = Unheld look × Active look × Unused look × Signalled look × Waited look × Some t (λ k. has active k ≡ true)
+  Means (suc (suc (suc (suc (suc (suc zero)))))) = Unheld look × Active look × Unused look × Signalled look × Waited look × Vacant look × Some t (λ k. has (ch .claimed) k ≡ true)
+  Means (suc (suc (suc (suc (suc (suc (suc zero))))))) = Held look
+  Means (suc (suc (suc (suc (suc (suc (suc (suc n)))))))) = ⊥
 
-  means : Means (reason ch s t on off w counts active signals)
+  means : Means (reasonUnder hold (reason ch s t on off w counts active signals))
   unfolding reason Means
-  means = go (Within s active) refl (Apart s (ch .left)) refl (Within on signals) refl (Apart off signals) refl (ripe w s counts) refl (Apart t active) refl (Apart t (ch .claimed)) refl
+  means = go (held hold) refl (Within s active) refl (Apart s (ch .left)) refl (Within on signals) refl (Apart off signals) refl (ripe w s counts) refl (Apart t active) refl (Apart t (ch .claimed)) refl
     where
-      go : (a : Bool) → Within s active ≡ a → (b : Bool) → Apart s (ch .left) ≡ b → (c : Bool) → Within on signals ≡ c → (d : Bool) → Apart off signals ≡ d
+      go : (h : Bool) → held hold ≡ h → (a : Bool) → Within s active ≡ a → (b : Bool) → Apart s (ch .left) ≡ b → (c : Bool) → Within on signals ≡ c → (d : Bool) → Apart off signals ≡ d
           → (r : Bool) → ripe w s counts ≡ r → (e : Bool) → Apart t active ≡ e → (f : Bool) → Apart t (ch .claimed) ≡ f
-          → Means (orElse (unless a 1) (orElse (unless b 2) (orElse (unless (c && d) 3) (orElse (unless r 4) (orElse (unless e 5) (unless f 6))))))
-      go false a b _ c _ d _ r _ e _ f _ = outside s active a
-      go true a false b c _ d _ r _ e _ f _ = (within-has s active a, shared s (ch .left) b)
-      go true a true b false c d _ r _ e _ f _ = (within-has s active a, apart-has s (ch .left) b, inl (outside on signals c))
-      go true a true b true c false d r _ e _ f _ = (within-has s active a, apart-has s (ch .left) b, inr (shared off signals d))
-      go true a true b true c true d false r e _ f _ =
-          (within-has s active a, apart-has s (ch .left) b, (within-has on signals c, apart-has off signals d), early w s counts r)
-      go true a true b true c true d true r false e f _ =
-          (within-has s active a, apart-has s (ch .left) b, (within-has on signals c, apart-has off signals d), waited w s counts r, shared t active e)
-      go true a true b true c true d true r true e false f =
-          (within-has s active a, apart-has s (ch .left) b, (within-has on signals c, apart-has off signals d), waited w s counts r, apart-has t active e, shared t (ch .claimed) f)
-      go true a true b true c true d true r true e true f =
-          (within-has s active a, apart-has s (ch .left) b, (within-has on signals c, apart-has off signals d), waited w s counts r, apart-has t active e, apart-has t (ch .claimed) f)
+          → Means (orElse (unless (not h) 7) (orElse (unless a 1) (orElse (unless b 2) (orElse (unless (c && d) 3) (orElse (unless r 4) (orElse (unless e 5) (unless f 6)))))))
+      go true h a _ b _ c _ d _ r _ e _ f _ = h
+      go false h false a b _ c _ d _ r _ e _ f _ = (h, outside s active a)
+      go false h true a false b c _ d _ r _ e _ f _ = (h, within-has s active a, shared s (ch .left) b)
+      go false h true a true b false c d _ r _ e _ f _ = (h, within-has s active a, apart-has s (ch .left) b, inl (outside on signals c))
+      go false h true a true b true c false d r _ e _ f _ = (h, within-has s active a, apart-has s (ch .left) b, inr (shared off signals d))
+      go false h true a true b true c true d false r e _ f _ =
+          (h, within-has s active a, apart-has s (ch .left) b, (within-has on signals c, apart-has off signals d), early w s counts r)
+      go false h true a true b true c true d true r false e f _ =
+          (h, within-has s active a, apart-has s (ch .left) b, (within-has on signals c, apart-has off signals d), waited w s counts r, shared t active e)
+      go false h true a true b true c true d true r true e false f =
+          (h, within-has s active a, apart-has s (ch .left) b, (within-has on signals c, apart-has off signals d), waited w s counts r, apart-has t active e, shared t (ch .claimed) f)
+      go false h true a true b true c true d true r true e true f =
+          (h, within-has s active a, apart-has s (ch .left) b, (within-has on signals c, apart-has off signals d), waited w s counts r, apart-has t active e, apart-has t (ch .claimed) f)
 
-  pub meaning : Meaning look (reason ch s t on off w counts active signals)
+  pub meaning : Meaning look (reasonUnder hold (reason ch s t on off w counts active signals))
   unfolding Means
   meaning = record {
-    most = reason-most ch s t on off w counts active signals;
+    most = reason-under-most hold ch s t on off w counts active signals;
     taken = λ z. subst Means z means;
     not-active = λ z. subst Means z means;
     used = λ z. subst Means z means;
@@ -194,12 +206,13 @@ module _ (ch : Choice) (s t on off w : ℕ) (counts : List ℕ) (active signals 
     wait = λ z. subst Means z means;
     occupied = λ z. subst Means z means;
     claimed = λ z. subst Means z means;
+    hold = λ z. subst Means z means;
   }
 
-  -- "'Taken' is given exactly where it was before": where the tests of document 01 hold that the choosing made before there were reasons
-  pub as-before : eqb (reason ch s t on off w counts active signals) 0
-      ≡ (Within s active && Apart s (ch .left) && Within on signals && Apart off signals && Apart t active && Apart t (ch .claimed) && ripe w s counts)
-  as-before = taken-as-before ch s t on off w counts active signals
+-- "'Taken' is given exactly where it was before": where the tests of document 01 hold that the choosing made before there were reasons
+pub as-before : (ch : Choice) (s t on off w : ℕ) (counts : List ℕ) (active signals : ℕ) → eqb (reason ch s t on off w counts active signals) 0
+    ≡ (Within s active && Apart s (ch .left) && Within on signals && Apart off signals && Apart t active && Apart t (ch .claimed) && ripe w s counts)
+as-before ch s t on off w counts active signals = taken-as-before ch s t on off w counts active signals
 
 -- ---- the transitions of a cycle
 
@@ -228,22 +241,31 @@ module _ (sources targets on off wait counts : List ℕ) (active signals : ℕ) 
   taken-zero zero t h l = absurd (omega arith)
   taken-zero (suc n) t h l = one-more n t (omega arith) l (λ m. taken-zero n t (omega arith) m)
 
--- the fields of transition t in the cycle of a chart from the run r at a call x: its counters have grown, and those before it are chosen
-abbrev pub lookedIn : Chart → Run → Call → ℕ → Looked
-lookedIn c r x t =
-    let counts = grownCounts (r .counters) (r .active) (elapsed (r .clock) (x .clock)) in
-    let signals = signalsOf (x .inputs) (r .activity) in
-    lookedAt (chosen t (c .sources) (c .targets) (c .on) (c .off) (c .wait) counts (r .active) signals) (getD (c .sources) t 0) (getD (c .targets) t 0) (getD (c .on) t 0) (getD (c .off) t 0) (getD (c .wait) t 0) counts (r .active) signals
+-- under hold none is, and no reason is 0
+taken-under : (hold : ℕ) (sources targets on off wait counts : List ℕ) (active signals n t : ℕ) → n ≤ 64 → t < n
+    → has (chosenUnder hold n sources targets on off wait counts active signals .taken) t ≡ eqb (reasonUnder hold (reasonAt sources targets on off wait counts active signals t)) 0
+taken-under hold sources targets on off wait counts active signals n t few l = go (held hold)
+  where
+    go : (b : Bool) → has (cond b noneTaken (chosen n sources targets on off wait counts active signals) .taken) t ≡ eqb (orElse (unless (not b) 7) (reasonAt sources targets on off wait counts active signals t)) 0
+    go true = has-zero t
+    go false = taken-zero sources targets on off wait counts active signals n t few l
 
--- an answer o to the call x that was given the run r: accepted, each transition's reason means what it says, and those are taken whose reason is 0;
+-- the fields of transition t in the cycle x of a chart from the run r: its counters have grown, and those before it are chosen
+abbrev pub lookedIn : Chart → Run → Cycle → ℕ → Looked
+lookedIn c r x t =
+    let counts = countsAt r (x .clock) in
+    let signals = signalsOf (x .inputs) (r .activity) in
+    lookedAt (r .hold) (chosen t (c .sources) (c .targets) (c .on) (c .off) (c .wait) counts (r .active) signals) (getD (c .sources) t 0) (getD (c .targets) t 0) (getD (c .on) t 0) (getD (c .off) t 0) (getD (c .wait) t 0) counts (r .active) signals
+
+-- an answer o to the cycle x that was given the run r: accepted, each transition's reason means what it says, and those are taken whose reason is 0;
 -- "Reasons .. of a refused call and beyond the last transition are 0."
-pub record Explained (c : Chart) (r : Run) (x : Call) (o : Cycled) : Type 0 where
+pub record Explained (c : Chart) (r : Run) (x : Cycle) (o : Cycled) : Type 0 where
   pub meaning : o .code ≡ 0 → (t : ℕ) → t < c .transitions → Meaning (lookedIn c r x t) (getD (o .reasons) t 0)
   pub taken : o .code ≡ 0 → (t : ℕ) → t < c .transitions → has (o .taken) t ≡ eqb (getD (o .reasons) t 0) 0
   pub beyond : (t : ℕ) → c .transitions ≤ t → t < 64 → getD (o .reasons) t 0 ≡ 0
   pub refused : (o .code ≡ 0 → ⊥) → o .reasons ≡ noReasons
 
-refused-explained : (c : Chart) (r : Run) (x : Call) (code : ℕ) → (code ≡ 0 → ⊥) → Explained c r x (refused code r)
+refused-explained : (c : Chart) (r : Run) (x : Cycle) (code : ℕ) → (code ≡ 0 → ⊥) → Explained c r x (refused code r)
 refused-explained c r x code z = record {
   meaning = λ e. absurd (z e);
   taken = λ e. absurd (z e);
@@ -251,20 +273,20 @@ refused-explained c r x code z = record {
   refused = λ e. refl;
 }
 
-cycled-explained : (c : Chart) (r : Run) (x : Call) → c .transitions ≤ 64 → Explained c r x (cycled c r (x .clock) (x .inputs))
+cycled-explained : (c : Chart) (r : Run) (x : Cycle) → c .transitions ≤ 64 → Explained c r x (cycled c r (x .clock) (x .inputs))
 cycled-explained c r x few =
-    let counts = grownCounts (r .counters) (r .active) (elapsed (r .clock) (x .clock)) in
+    let counts = countsAt r (x .clock) in
     let signals = signalsOf (x .inputs) (r .activity) in
-    let at = reasons-at (c .sources) (c .targets) (c .on) (c .off) (c .wait) counts (r .active) signals (c .transitions) in
+    let at = reasons-at (r .hold) (c .sources) (c .targets) (c .on) (c .off) (c .wait) counts (r .active) signals (c .transitions) in
     record {
-      meaning = λ e t l. rw (at t (lt-of-lt-of-le l few), lt-ltb t (c .transitions) l) (meaning (chosen t (c .sources) (c .targets) (c .on) (c .off) (c .wait) counts (r .active) signals) (getD (c .sources) t 0) (getD (c .targets) t 0) (getD (c .on) t 0) (getD (c .off) t 0) (getD (c .wait) t 0) counts (r .active) signals);
-      taken = λ e t l. rw (at t (lt-of-lt-of-le l few), lt-ltb t (c .transitions) l) (taken-zero (c .sources) (c .targets) (c .on) (c .off) (c .wait) counts (r .active) signals (c .transitions) t few l);
+      meaning = λ e t l. rw (at t (lt-of-lt-of-le l few), lt-ltb t (c .transitions) l) (meaning (r .hold) (chosen t (c .sources) (c .targets) (c .on) (c .off) (c .wait) counts (r .active) signals) (getD (c .sources) t 0) (getD (c .targets) t 0) (getD (c .on) t 0) (getD (c .off) t 0) (getD (c .wait) t 0) counts (r .active) signals);
+      taken = λ e t l. rw (at t (lt-of-lt-of-le l few), lt-ltb t (c .transitions) l) (taken-under (r .hold) (c .sources) (c .targets) (c .on) (c .off) (c .wait) counts (r .active) signals (c .transitions) t few l);
       beyond = λ t h l. at t l ∙ rw (le-ltb t (c .transitions) h);
       refused = λ z. absurd (z refl);
     }
 
 -- every answer of the cycle is so, whatever the chart, the run and the call
-pub explained : (c : Chart) (r : Run) (x : Call) → Explained c r x (answer c r x)
+pub explained : (c : Chart) (r : Run) (x : Cycle) → Explained c r x (answer c r (cycle x))
 explained c r x = go (eqb (cycleCode c r (x .clock) (x .lent)) 0) refl
   where
     go : (b : Bool) → eqb (cycleCode c r (x .clock) (x .lent)) 0 ≡ b

@@ -1,24 +1,48 @@
 -- A run of calls: an accepted start of any chart, then any calls, each given the run that the one before returned.
 use Prim.Native.Nat.{ℕ, zero, suc, _+_}
-use mathlib.Core.Bool.{Bool, cond}
+use mathlib.Core.Bool.{Bool, true, false, cond}
 use mathlib.Core.List.{List, [], _∷_, _++_}
 use lib.ListN.{getD}
 use lib.Dec.{eqb}
 use Rattle.sets.specs.Sets.{has}
 use Rattle.chart.specs.declared.chart.Chart.{Chart}
 use Rattle.run.specs.declared.run.Run.{Run}
+use Rattle.passes.specs.Explaining.{noReasons}
 use Rattle.cycle.specs.Cycling.{startOf, cycleOf}
 use Rattle.cycle.specs.declared.cycling.Cycled.{Cycled}
+use Rattle.key.specs.Turning.{turnOf}
+use Rattle.key.specs.declared.turning.Turned.{Turned}
 
--- one call of the cycle: the clock, the inputs, and how many outputs are lent
-pub record Call : Type 0 where
+-- one cycle: the clock, the inputs, and how many outputs are lent
+pub record Cycle : Type 0 where
   pub clock : ℕ
   pub inputs : ℕ
   pub lent : ℕ
 
--- what the cycle answers to a call that is given the run r
+-- a call: a cycle, or the key turned, to hold or back (document 02, request vii: "Demand 3 holds with such calls between cycles")
+pub data Call : Type 0 where
+  cycle : Cycle → Call
+  turn : Bool → Call
+
+abbrev pub hold : Call
+hold = turn true
+
+abbrev pub release : Call
+release = turn false
+
+-- the key's answer as that of a call that takes no transition
+abbrev pub keyed : Turned → Cycled
+keyed o = record { code = o .code; taken = 0; reasons = noReasons; run = o .run }
+
+-- what is answered to a call that is given the run r
 abbrev pub answer : Chart → Run → Call → Cycled
-answer c r x = cycleOf c r (x .clock) (x .inputs) (x .lent)
+answer c r (cycle x) = cycleOf c r (x .clock) (x .inputs) (x .lent)
+answer c r (turn held) = keyed (turnOf held c r)
+
+-- the inputs of a call; the key has none
+abbrev pub inputsOf : Call → ℕ
+inputsOf (cycle x) = x .inputs
+inputsOf (turn held) = 0
 
 -- the run after the calls xs
 unfoldable pub after : Chart → Run → List Call → Run

@@ -39,7 +39,7 @@ use Rattle.claims.specs.Answers.{oneOf, startNumbers}
 use Rattle.claims.specs.Fair.{fair}
 use Rattle.claims.specs.Ledger.{ledger}
 use Rattle.claims.specs.Numbers.{ready-each, cycle-each, left-alone, rest-kept}
-use Rattle.claims.specs.Runs.{Call, answer, after, history, one, arrivals, departures, begun}
+use Rattle.claims.specs.Runs.{Call, cycle, answer, after, history, one, arrivals, departures, begun}
 use Rattle.claims.specs.Tally.{tallied, tally-counts}
 use Rattle.claims.specs.Weights.{Balanced, initialWeight, never-together}
 
@@ -51,7 +51,7 @@ shiftNumbers = startNumbers ++ (12 ∷ 18 ∷ 11 ∷ [])
 
 -- call k of a shift, and its first n calls
 abbrev pub callAt : List ℕ → List ℕ → ℕ → ℕ → Call
-callAt clocks inputs lent k = record { clock = getD clocks k 0; inputs = getD inputs k 0; lent = lent }
+callAt clocks inputs lent k = cycle (record { clock = getD clocks k 0; inputs = getD inputs k 0; lent = lent })
 
 unfoldable pub callsOf : List ℕ → List ℕ → ℕ → ℕ → List Call
 callsOf clocks inputs lent zero = []
@@ -234,8 +234,8 @@ module _ (c : Chart) (r : Run) (clocks inputs words : List ℕ) (out : List ℤ)
   each P p0 p4 p5 p6 p7 p9 p8 p15 p12 p18 p11 =
       either-way (λ d. P (d .0 .code))
       (λ d s.
-      let x = call (d .0 .accepted) in
-      ⊎-elim (λ q. rw (s .all q) p0) (λ l. rw (s .stops l .1) (cycle-each P p0 p4 p5 p6 p7 p9 p8 p15 p12 p11 c (d .0 .run) (x .clock) (x .inputs) (x .lent))) (eq-or-lt-of-le (s .few)))
+      let k = d .0 .accepted in
+      ⊎-elim (λ q. rw (s .all q) p0) (λ l. rw (s .stops l .1) (cycle-each P p0 p4 p5 p6 p7 p9 p8 p15 p12 p11 c (d .0 .run) (getD clocks k 0) (getD inputs k 0) (length out))) (eq-or-lt-of-le (s .few)))
       (else-each P _ _ (ready-each P p0 p4 p5 p6 p7 p9 p8 p15 p12 c r (length out)) (either P even 0 18 p0 p18))
 
   pub shift-answers : ShiftAnswer done
@@ -258,21 +258,50 @@ pub shift-after : (c : Chart) (r : Run) (xs : List Call) (clocks inputs words : 
     ≡ after c r (xs ++ callsOf clocks inputs (length out) (shiftOf c (after c r xs) clocks inputs words out .0 .accepted))
 shift-after c r xs clocks inputs words out = shift-made c (after c r xs) clocks inputs words out .run ∙ sym (after-both c r xs _)
 
-module _ (c : Chart) (clock lent : ℕ) (e : startOf c clock lent .code ≡ 0) (xs : List Call) (clocks inputs words : List ℕ) (out : List ℤ) where
-  abbrev pub shifted : Shifted
-  shifted = shiftOf c (after c (begun c clock lent) xs) clocks inputs words out .0
+-- what a rig calls: single calls, and shifts with their clocks, inputs, lent activity words and outputs
+pub data Entry : Type 0 where
+  single : Call → Entry
+  shift : List ℕ → List ℕ → List ℕ → List ℤ → Entry
+
+-- the run after them, each given the run that the one before returned
+unfoldable pub afterAll : Chart → Run → List Entry → Run
+afterAll c r [] = r
+afterAll c r (single x ∷ es) = afterAll c (answer c r x .run) es
+afterAll c r (shift clocks inputs words out ∷ es) = afterAll c (shiftOf c r clocks inputs words out .0 .run) es
+
+-- the calls that they come to: a shift is those that it accepted
+unfoldable pub callsIn : Chart → Run → List Entry → List Call
+callsIn c r [] = []
+callsIn c r (single x ∷ es) = x ∷ callsIn c (answer c r x .run) es
+callsIn c r (shift clocks inputs words out ∷ es) =
+    callsOf clocks inputs (length out) (shiftOf c r clocks inputs words out .0 .accepted) ++ callsIn c (shiftOf c r clocks inputs words out .0 .run) es
+
+pub entries-after : (c : Chart) (r : Run) (es : List Entry) → afterAll c r es ≡ after c r (callsIn c r es)
+unfolding after afterAll callsIn
+entries-after c r [] = refl
+entries-after c r (single x ∷ es) = entries-after c (answer c r x .run) es
+entries-after c r (shift clocks inputs words out ∷ es) =
+    let d = shiftOf c r clocks inputs words out .0 in
+    entries-after c (d .run) es
+    ∙ ap (λ (q : Run). after c q (callsIn c (d .run) es)) (shift-made c r clocks inputs words out .run)
+    ∙ sym (after-both c r (callsOf clocks inputs (length out) (d .accepted)) (callsIn c (d .run) es))
+
+-- so demand 3 and the tally hold with cycles, holds, releases and shifts in any order
+module _ (c : Chart) (clock lent : ℕ) (e : startOf c clock lent .code ≡ 0) (es : List Entry) where
+  abbrev pub reached-run : Run
+  reached-run = afterAll c (begun c clock lent) es
 
   abbrev pub calls : List Call
-  calls = xs ++ callsOf clocks inputs (length out) (shifted .accepted)
+  calls = callsIn c (begun c clock lent) es
 
-  pub shift-tally : tallyOf c (shifted .run) ≡ tallied c (begun c clock lent) calls
-  shift-tally = rw (shift-after c (begun c clock lent) xs clocks inputs words out) (tally-counts c clock lent e calls)
+  pub shift-tally : tallyOf c reached-run ≡ tallied c (begun c clock lent) calls
+  shift-tally = rw (entries-after c (begun c clock lent) es) (tally-counts c clock lent e calls)
 
   pub shift-ledger : (k : ℕ) → k < c .steps
       → one (initialAt (c .initial) k) + arrivals c k (history c (begun c clock lent) calls)
-      ≡ departures c k (history c (begun c clock lent) calls) + one (has (shifted .run .active) k)
-  shift-ledger k l = rw (shift-after c (begun c clock lent) xs clocks inputs words out) (ledger c clock lent e calls k l)
+      ≡ departures c k (history c (begun c clock lent) calls) + one (has (reached-run .active) k)
+  shift-ledger k l = rw (entries-after c (begun c clock lent) es) (ledger c clock lent e calls k l)
 
   pub shift-apart : (w : ℕ → ℕ) → Balanced c w → (i j : ℕ) → i < c .steps → j < c .steps → (i ≡ j → ⊥) → initialWeight c w < w i + w j
-      → has (shifted .run .active) i ≡ true → has (shifted .run .active) j ≡ true → ⊥
-  shift-apart w b = rw (shift-after c (begun c clock lent) xs clocks inputs words out) (never-together c clock lent e w b calls)
+      → has (reached-run .active) i ≡ true → has (reached-run .active) j ≡ true → ⊥
+  shift-apart w b = rw (entries-after c (begun c clock lent) es) (never-together c clock lent e w b calls)

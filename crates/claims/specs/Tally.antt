@@ -18,7 +18,7 @@ use Rattle.cycle.proofs.cycling.Kept.{start-belongs}
 use Rattle.tally.specs.Tallying.{isPassed, isFailed, isNotRun, countsOf, tallyOf}
 use Rattle.tally.specs.declared.tallying.Tallied.{Tallied}
 use Rattle.tally.proofs.tallying.Laws.{accepted}
-use Rattle.claims.specs.Runs.{Call, answer, after, begun}
+use Rattle.claims.specs.Runs.{Call, answer, inputsOf, after, begun}
 use Rattle.claims.specs.Marks.{only-good, neither, marks, start-passes, Unmarked, start-unmarked, after-belongs}
 
 -- in an answer, step k was left: a transition that it carries has k as a source
@@ -31,7 +31,7 @@ ranIn c i r x = leftIn c (answer c r x) (getD (c .casestep) i 0)
 
 -- case i's signal in that call was as expected: an input of this call, or an activity as the call before left it
 abbrev pub fineIn : Chart → ℕ → Run → Call → Bool
-fineIn c i r x = asExpected (getD (c .signal) i 0) (getD (c .expected) i 0) (signalsOf (x .inputs) (r .activity))
+fineIn c i r x = asExpected (getD (c .signal) i 0) (getD (c .expected) i 0) (signalsOf (inputsOf x) (r .activity))
 
 -- p holds of some call of a run of calls, each with the run that it was given
 unfoldable pub ever : (Run → Call → Bool) → Chart → Run → List Call → Bool

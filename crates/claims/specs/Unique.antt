@@ -1,6 +1,6 @@
 -- "Prove that two answers allowed by one statement are equal": each public function of the parts, by the statement in its source.
 use Prim.Native.Nat.{ℕ, _%_, _≤_, _<_, min}
-use mathlib.Core.Bool.{Bool, cond}
+use mathlib.Core.Bool.{Bool, true, false, cond}
 use mathlib.Core.List.{List}
 use mathlib.Core.Path.{_≡_}
 use lib.Dec.{eqb}
@@ -25,9 +25,9 @@ use Rattle.reader.specs.declared.reading.Read.{Read}
 use Rattle.reader.specs.declared.reading.Reading.{Reading}
 use Rattle.reader.proofs.framing.Laws.{record-at-unique}
 use Rattle.reader.proofs.Unique.{from-unique, signed-unique, bits-of-unique, read-chart-unique, read-into-unique}
-use Rattle.choice.specs.Choice.{choosing, chosen, reasonsOf}
+use Rattle.choice.specs.Choice.{choosing, chosenUnder, reasonsOf, heldReasons}
 use Rattle.choice.specs.declared.Choice.{Choice}
-use Rattle.choice.proofs.Unique.{choose-one-unique, explain-unique}
+use Rattle.choice.proofs.Unique.{choose-one-unique, explain-unique, hold-all-unique}
 use Rattle.acting.specs.Acting.{requestAt, putting, asked, acted}
 use Rattle.acting.specs.declared.Steps.{Steps}
 use Rattle.acting.specs.declared.Request.{Request}
@@ -36,14 +36,14 @@ use Rattle.acting.specs.declared.Acted.{Acted}
 use Rattle.acting.proofs.Unique.{asks-unique, put-unique, act-unique}
 use Rattle.run.specs.Run.{noRun, longerCounter, longerTimer}
 use Rattle.run.specs.Apart.{wordsOf, countersOf, countsOf, timesOf, runOf}
-use Rattle.run.specs.Belongs.{belongsTo}
+use Rattle.run.specs.Belongs.{belongsTo, ownAfter}
 use Rattle.run.specs.declared.apart.Words.{Words}
 use Rattle.run.specs.declared.run.StepCounter.{StepCounter}
 use Rattle.run.specs.declared.run.ActionTimer.{ActionTimer}
 use Rattle.run.specs.declared.run.Run.{Run}
-use Rattle.run.proofs.Unique.{parts-belong-unique, counter-longer-unique, timer-longer-unique, no-run-unique, words-of-unique, counts-of-unique, times-of-unique, run-of-unique}
+use Rattle.run.proofs.Unique.{parts-belong-unique, own-code-unique, counter-longer-unique, timer-longer-unique, no-run-unique, words-of-unique, counts-of-unique, times-of-unique, run-of-unique}
 use Rattle.passes.specs.Rests.{rests}
-use Rattle.passes.specs.Time.{elapsed, grownCounts}
+use Rattle.passes.specs.Time.{elapsed, stepTime, grownCounts}
 use Rattle.passes.specs.Choosing.{stepsOf}
 use Rattle.passes.specs.Moving.{signalsOf, marksOf}
 use Rattle.passes.specs.Outputs.{written}
@@ -55,9 +55,12 @@ use Rattle.calls.specs.Starting.{begun, startOn}
 use Rattle.cycle.specs.Calling.{InParts, inParts, callsOn}
 use Rattle.cycle.specs.declared.cycling.Cycled.{Cycled}
 use Rattle.calls.specs.declared.starting.Started.{Started}
-use Rattle.passes.proofs.Unique.{elapsed-unique, choose-unique, steps-of-unique, signals-of-unique, marks-of-unique, ask-blocks-unique, write-outputs-unique, explain-unique as call-explain-unique, keep-if-unique}
+use Rattle.passes.proofs.Unique.{elapsed-unique, step-time-unique, choose-unique, steps-of-unique, signals-of-unique, marks-of-unique, ask-blocks-unique, write-outputs-unique, explain-unique as call-explain-unique, keep-if-unique}
 use Rattle.cycle.proofs.Unique.{ready-code-unique, settle-unique, cycles-on-unique}
 use Rattle.calls.proofs.Unique.{start-unique, cycle-unique, start-on-unique}
+use Rattle.key.specs.Turning.{turnOf}
+use Rattle.key.specs.declared.turning.Turned.{Turned}
+use Rattle.key.proofs.Unique.{turn-unique}
 use Rattle.shift.specs.Shifting.{Done, listsCode, clocksTaken, shiftOf}
 use Rattle.shift.proofs.Unique.{lists-code-unique, clocks-taken-unique, shift-unique}
 use Rattle.trace.specs.Tracing.{callAt, numberOf, traceNumber}
@@ -140,7 +143,8 @@ pub record ChoiceUnique : Type 0 where
   pub choose-one : (choice : Choice) (t sources targets on off wait : ℕ) (counts : List ℕ) (active signals : ℕ)
       → One (λ (r : Choice). r ≡ choosing choice t sources targets on off wait counts active signals)
   pub explain : (n : ℕ) (sources targets on off wait counts : List ℕ) (active signals : ℕ)
-      → One (λ (exit : List ℕ). exit ≡ reasonsOf n sources targets on off wait counts active signals)
+      → One (λ (exit : List ℕ). exit ≡ reasonsOf 0 n sources targets on off wait counts active signals)
+  pub hold-all : (n : ℕ) → One (λ (exit : List ℕ). exit ≡ heldReasons n)
 
 -- acting/src/lib.rt
 pub record ActingUnique : Type 0 where
@@ -156,6 +160,8 @@ pub record RunUnique : Type 0 where
   pub no-run : One (λ (r : Run). r ≡ noRun)
   pub parts-belong : (words : Words) (counts times : List ℕ) (steps actions cases : ℕ)
       → One (λ (r : Bool). (r ≡ belongsTo steps actions cases (runOf words counts times)) × (length counts ≡ 64) × (length times ≡ 32))
+  pub own-code : (held : ℕ) (words : Words) (counts times : List ℕ) (steps actions cases : ℕ)
+      → One (λ (r : ℕ). (r ≡ ownAfter held steps actions cases (runOf words counts times)) × (length counts ≡ 64) × (length times ≡ 32))
   pub words-of : (run : Run) → One (λ (r : Words). r ≡ wordsOf run)
   pub counts-of : (counters : List StepCounter) → One (λ (r : List ℕ). (r ≡ countsOf counters) × (length counters ≡ 64))
   pub times-of : (timers : List ActionTimer) → One (λ (r : List ℕ). (r ≡ timesOf timers) × (length timers ≡ 32))
@@ -163,8 +169,9 @@ pub record RunUnique : Type 0 where
 
 -- passes/src: asking, choosing, explaining, moving, outputs, time
 pub record PassesUnique : Type 0 where
-  pub choose : (n : ℕ) (sources targets on off wait counts : List ℕ) (active signals : ℕ)
-      → One (λ (r : Choice). r ≡ chosen (min n 64) sources targets on off wait counts active signals)
+  pub step-time : (hold e : ℕ) → One (λ (r : ℕ). r ≡ stepTime hold e)
+  pub choose : (hold n : ℕ) (sources targets on off wait counts : List ℕ) (active signals : ℕ)
+      → One (λ (r : Choice). r ≡ chosenUnder hold (min n 64) sources targets on off wait counts active signals)
   pub steps-of : (active : ℕ) (choice : Choice) → One (λ (r : Steps). r ≡ stepsOf active choice)
   pub signals-of : (inputs activity : ℕ) → One (λ (r : ℕ). r ≡ signalsOf inputs activity)
   pub marks-of : (n : ℕ) (step signal expected : List ℕ) (left signals : ℕ)
@@ -174,7 +181,7 @@ pub record PassesUnique : Type 0 where
   pub write-outputs : (outputs : List ℤ) (n : ℕ) (output : List ℕ) (value : List ℤ) (activity : ℕ)
       → One (λ (exit : List ℤ). exit ≡ written (min n 32) (rests 32 output) value activity outputs)
   pub explain : (n : ℕ) (sources targets on off wait : List ℕ) (words : Words) (counts : List ℕ) (clock inputs : ℕ)
-      → One (λ (exit : List ℕ). exit ≡ reasonsOf n sources targets on off wait (grownCounts (countersOf counts) (words .active) (elapsed (words .clock) clock)) (words .active) (signalsOf inputs (words .activity)))
+      → One (λ (exit : List ℕ). exit ≡ reasonsOf (words .hold) n sources targets on off wait (grownCounts (countersOf counts) (words .active) (stepTime (words .hold) (elapsed (words .clock) clock))) (words .active) (signalsOf inputs (words .activity)))
   pub keep-if : (code : ℕ) (reasons : List ℕ) → One (λ (exit : List ℕ). exit ≡ keptIf code reasons)
   pub elapsed : (last new : ℕ) → One (λ (r : ℕ). r ≡ elapsed last new)
 
@@ -194,6 +201,12 @@ pub record CallsUnique : Type 0 where
   pub cycle : (chart : Chart) (run : Run) (clock inputs : ℕ) (outputs : List ℤ)
       → Both (λ (r : Cycled) (exit : List ℤ). (r ≡ cycleOf chart run clock inputs (length outputs)) × (exit ≡ outputsAfter chart r outputs))
   pub start-on : (lent : Chart) (clock : ℕ) (outputs : List ℤ) → Both (λ (r : Started) (exit : List ℤ). (begun r, exit) ≡ startOn lent clock outputs)
+
+-- key/src: turning
+pub record KeyUnique : Type 0 where
+  pub hold : (chart : Chart) (run : Run) → One (λ (r : Turned). r ≡ turnOf true chart run)
+  pub release : (chart : Chart) (run : Run) → One (λ (r : Turned). r ≡ turnOf false chart run)
+  pub turn : (held : Bool) (lent : Chart) (run : Run) → One (λ (r : Turned). r ≡ turnOf held lent run)
 
 -- shift/src: shifting
 pub record ShiftUnique : Type 0 where
@@ -234,6 +247,7 @@ pub record Unique : Type 0 where
   pub passes : PassesUnique
   pub cycle : CycleUnique
   pub calls : CallsUnique
+  pub key : KeyUnique
   pub shift : ShiftUnique
   pub trace : TraceUnique
   pub tally : TallyUnique
@@ -288,13 +302,14 @@ unique = record {
     read-chart = read-chart-unique;
     read-into = read-into-unique;
   };
-  choice = record { choose-one = choose-one-unique; explain = explain-unique };
+  choice = record { choose-one = choose-one-unique; explain = explain-unique; hold-all = hold-all-unique };
   acting = record { asks = asks-unique; put = put-unique; act = act-unique };
   run = record {
     StepCounter-longer = λ self e. counter-longer-unique e self;
     ActionTimer-longer = λ self e. timer-longer-unique e self;
     no-run = no-run-unique;
     parts-belong = λ words counts times steps actions cases r q a b. parts-belong-unique words counts times steps actions cases r q (a .0) (b .0);
+    own-code = λ held words counts times steps actions cases r q a b. own-code-unique held steps actions cases (runOf words counts times) r q (a .0) (b .0);
     words-of = words-of-unique;
     counts-of = λ counters r q a b. counts-of-unique counters r q (a .0) (b .0);
     times-of = λ timers r q a b. times-of-unique timers r q (a .0) (b .0);
@@ -302,7 +317,8 @@ unique = record {
   };
   passes = record {
     elapsed = elapsed-unique;
-    choose = λ n. choose-unique (min n 64);
+    step-time = step-time-unique;
+    choose = λ hold n. choose-unique hold (min n 64);
     steps-of = steps-of-unique;
     signals-of = signals-of-unique;
     marks-of = λ n step signal. marks-of-unique (min n 64) (rests 64 step) (rests 64 signal);
@@ -323,6 +339,7 @@ unique = record {
     cycle = λ chart run clock inputs outputs r q f g a b. cycle-unique chart run clock inputs r q outputs f g (a .0) (b .0) (a .1) (b .1);
     start-on = start-on-unique;
   };
+  key = record { hold = turn-unique true; release = turn-unique false; turn = turn-unique };
   shift = record {
     lists-code = lists-code-unique;
     clocks-taken = λ code clocks r q a b. clocks-taken-unique code clocks r q (a .0) (b .0);

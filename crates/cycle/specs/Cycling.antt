@@ -11,15 +11,15 @@ use Rattle.fields.specs.Fields.{unless}
 use Rattle.chart.specs.Held.{chartCode}
 use Rattle.chart.specs.Initial.{initialSet}
 use Rattle.chart.specs.declared.chart.Chart.{Chart}
-use Rattle.choice.specs.Choice.{chosen, reasonsOf}
+use Rattle.choice.specs.Choice.{chosenUnder, reasonsOf}
 use Rattle.choice.specs.declared.Choice.{Choice}
 use Rattle.acting.specs.Acting.{asked, acted}
 use Rattle.acting.specs.declared.Steps.{Steps}
 use Rattle.acting.specs.declared.Acted.{Acted}
 use Rattle.run.specs.Run.{noRun}
-use Rattle.run.specs.Belongs.{belongsTo}
+use Rattle.run.specs.Belongs.{ownAfter}
 use Rattle.run.specs.declared.run.Run.{Run}
-use Rattle.passes.specs.Time.{elapsed, grownCounts, grownTimes}
+use Rattle.passes.specs.Time.{elapsed, stepTime, grownCounts, grownTimes}
 use Rattle.passes.specs.Choosing.{stepsOf}
 use Rattle.passes.specs.Moving.{settledCounters, settledTimers, signalsOf, marksOf}
 use Rattle.passes.specs.Outputs.{outputsOf}
@@ -39,7 +39,7 @@ startCode c lent = orElse (unless (leb 32 lent) 15) (chartCode c)
 
 -- the tests of a cycle that its clock has no part in, the chart's by its number: 15, chart, 12
 abbrev pub readyAfter : ℕ → ℕ → ℕ → ℕ → Run → ℕ → ℕ
-readyAfter held steps actions cases r lent = orElse (unless (leb 32 lent) 15) (orElse held (unless (belongsTo steps actions cases r) 12))
+readyAfter held steps actions cases r lent = orElse (unless (leb 32 lent) 15) (ownAfter held steps actions cases r)
 
 abbrev pub readyCode : Chart → Run → ℕ → ℕ
 readyCode c r lent = readyAfter (chartCode c) (c .steps) (c .actions) (c .cases) r lent
@@ -58,8 +58,8 @@ actedOn c counts times steps stored latched =
     acted (asked (c .blocks) (c .blockstep) (c .blockaction) (c .qualifier) (c .duration) counts times steps) stored latched
 
 -- the run after paragraphs 4 to 6
-abbrev pub settled : ℕ → List ℕ → List ℕ → Steps → Acted → ℕ → ℕ → Run
-settled clock counts times steps acts good bad = record {
+abbrev pub settled : ℕ → List ℕ → List ℕ → Steps → Acted → ℕ → ℕ → ℕ → Run
+settled clock counts times steps acts good bad hold = record {
   clock = clock;
   active = steps .active;
   activity = acts .activity;
@@ -69,6 +69,7 @@ settled clock counts times steps acts good bad = record {
   timers = settledTimers times (acts .latched);
   good = good;
   bad = bad;
+  hold = hold;
 }
 
 -- "Start makes the initial steps active and entered, none left, all else 0, then does 4 to 6."
@@ -78,25 +79,32 @@ startSteps c = record { active = initialSet (c .steps) (c .initial); entered = i
 abbrev pub started : Chart → ℕ → Cycled
 started c clock =
     accepted 0 noReasons
-    (settled clock (replicate 64 0) (replicate 32 0) (startSteps c) (actedOn c (replicate 64 0) (replicate 32 0) (startSteps c) 0 0) 0 0)
+    (settled clock (replicate 64 0) (replicate 32 0) (startSteps c) (actedOn c (replicate 64 0) (replicate 32 0) (startSteps c) 0 0) 0 0 0)
 
 -- "A refused start returns an all-zero run"
 abbrev pub startOf : Chart → ℕ → ℕ → Cycled
 startOf c clock lent = cond (eqb (startCode c lent) 0) (started c clock) (refused (startCode c lent) noRun)
 
+-- paragraph 1: the step counters and the action timers as they have grown
+abbrev pub countsAt : Run → ℕ → List ℕ
+countsAt r clock = grownCounts (r .counters) (r .active) (stepTime (r .hold) (elapsed (r .clock) clock))
+
+abbrev pub timesAt : Run → ℕ → List ℕ
+timesAt r clock = grownTimes (r .timers) (r .latched) (elapsed (r .clock) clock)
+
 -- paragraph 2, from what held at the cycle's beginning
 abbrev pub choiceOf : Chart → Run → List ℕ → ℕ → Choice
 choiceOf c r counts signals =
-    chosen (c .transitions) (c .sources) (c .targets) (c .on) (c .off) (c .wait) counts (r .active) signals
+    chosenUnder (r .hold) (c .transitions) (c .sources) (c .targets) (c .on) (c .off) (c .wait) counts (r .active) signals
 
 -- and why each transition is not taken
 abbrev pub reasonsIn : Chart → Run → List ℕ → ℕ → List ℕ
 reasonsIn c r counts signals =
-    reasonsOf (c .transitions) (c .sources) (c .targets) (c .on) (c .off) (c .wait) counts (r .active) signals
+    reasonsOf (r .hold) (c .transitions) (c .sources) (c .targets) (c .on) (c .off) (c .wait) counts (r .active) signals
 
 -- by the counters as they have grown and the signals of the call
 abbrev pub whyIn : Chart → Run → ℕ → ℕ → List ℕ
-whyIn c r clock inputs = reasonsIn c r (grownCounts (r .counters) (r .active) (elapsed (r .clock) clock)) (signalsOf inputs (r .activity))
+whyIn c r clock inputs = reasonsIn c r (countsAt r clock) (signalsOf inputs (r .activity))
 
 abbrev pub marksAt : Chart → ℕ → ℕ → Marks
 marksAt c left signals = marksOf (c .cases) (c .casestep) (c .signal) (c .expected) left signals
@@ -105,7 +113,7 @@ marksAt c left signals = marksOf (c .cases) (c .casestep) (c .signal) (c .expect
 abbrev pub movedBy : Chart → Run → ℕ → List ℕ → List ℕ → ℕ → Choice → Run
 movedBy c r clock counts times signals ch =
     settled clock counts times (stepsOf (r .active) ch) (actedOn c counts times (stepsOf (r .active) ch) (r .stored) (r .latched))
-    (union (r .good) (marksAt c (ch .left) signals .good)) (union (r .bad) (marksAt c (ch .left) signals .bad))
+    (union (r .good) (marksAt c (ch .left) signals .good)) (union (r .bad) (marksAt c (ch .left) signals .bad)) (r .hold)
 
 -- paragraphs 2 to 6 once counters and timers have grown
 abbrev pub goneOn : Chart → Run → ℕ → List ℕ → List ℕ → ℕ → Cycled
@@ -113,9 +121,7 @@ goneOn c r clock counts times signals =
     accepted (choiceOf c r counts signals .taken) (reasonsIn c r counts signals) (movedBy c r clock counts times signals (choiceOf c r counts signals))
 
 abbrev pub cycled : Chart → Run → ℕ → ℕ → Cycled
-cycled c r clock inputs =
-    goneOn c r clock (grownCounts (r .counters) (r .active) (elapsed (r .clock) clock)) (grownTimes (r .timers) (r .latched) (elapsed (r .clock) clock))
-    (signalsOf inputs (r .activity))
+cycled c r clock inputs = goneOn c r clock (countsAt r clock) (timesAt r clock) (signalsOf inputs (r .activity))
 
 -- "A refused .. cycle [returns] the run it was given .. with no transition taken"
 abbrev pub cycleOf : Chart → Run → ℕ → ℕ → ℕ → Cycled

@@ -7,7 +7,6 @@ use crate::codes::FEW_OUTPUTS;
 use run::Run;
 use run::Words;
 use run::belongs;
-use run::codes::OTHER_RUN;
 
 // The number, the transitions taken, why each of 64 is not (document 02, request vi), and the run.
 pub struct Cycled {
@@ -30,7 +29,6 @@ pub fn ready_code(
 ) -> u8
     ensures { λ r. ⌜ (r ≡ readyAfter held steps actions cases (runOf words (now (counts .entry)) (now (times .entry))) lent) × (length (now (counts .entry)) ≡ 64) × (length (now (times .entry)) ≡ 32) ⌝ }
 {
-    let own = belongs::parts_belong(words, counts, times, steps, actions, cases);
-    let code = fields::or_else(held, fields::unless(own, OTHER_RUN));
+    let code = belongs::own_code(held, words, counts, times, steps, actions, cases);
     fields::or_else(fields::unless(32 <= lent, FEW_OUTPUTS), code)
 }

@@ -94,10 +94,12 @@ pub(crate) fn step<'a>(
     ensures { λ r. ⌜ ((r .taken, runOf (r .words) (now (counts .exit)) (now (times .exit)), now (outputs .exit)) ≡ movedOn (bounded (chartOf steps actions transitions blocks cases (now (initial .entry)) (now (output .entry)) (now (value .entry)) (now (sources .entry)) (now (targets .entry)) (now (on .entry)) (now (off .entry)) (now (wait .entry)) (now (blockstep .entry)) (now (blockaction .entry)) (now (qualifier .entry)) (now (duration .entry)) (now (casestep .entry)) (now (signal .entry)) (now (expected .entry)))) (runOf words (now (counts .entry)) (now (times .entry))) clock inputs (now (outputs .entry))) × (length (now (counts .exit)) ≡ 64) × (length (now (times .exit)) ≡ 32) ⌝ }
 {
     let e = passes::elapsed(words.clock, clock);
-    lying::grow_counts(counts, words.active, e);
+    let standing = passes::step_time(words.hold, e);
+    lying::grow_counts(counts, words.active, standing);
     lying::grow_times(times, words.latched, e);
     let signals = passes::signals_of(inputs, words.activity);
     let choice = passes::choose(
+        words.hold,
         transitions,
         sources,
         targets,
@@ -137,6 +139,7 @@ pub(crate) fn step<'a>(
         latched: acts.latched,
         good: sets::joined(words.good, marks.good),
         bad: sets::joined(words.bad, marks.bad),
+        hold: words.hold,
     };
     Stepped {
         taken: choice.taken,

@@ -7,16 +7,10 @@ use Rattle.reader.specs.declared.framing.Next.{Next}
 use Rattle.reader.specs.declared.framing.Next.the-variants.{Record, End, Refused}
 use Rattle.reader.specs.declared.reading.Reading.{Reading}
 use Rattle.records.specs.Asking.{Finds}
-use Rattle.run.specs.declared.apart.Words.{Words}
 use Rattle.tally.specs.declared.tallying.Tallied.{Tallied}
 use Rattle.tally.specs.declared.weighing.Weighed.{Weighed}
 use Rattle.writer.specs.declared.writing.Writing.{Writing}
 use Rattle.desk.specs.declared.filing.Told.{Told}
-
--- a run's words, lent one by one
-abbrev pub wordsAt : ℕ → ℕ → ℕ → ℕ → ℕ → ℕ → ℕ → Words
-wordsAt clock active activity stored latched good bad =
-    record { clock = clock; active = active; activity = activity; stored = stored; latched = latched; good = good; bad = bad }
 
 -- ---- answers by their numbers
 

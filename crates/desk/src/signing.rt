@@ -1,10 +1,10 @@
 // What the assessor signs: the tally and the weighing.
 ghost use mathlib.Core.Path.{_≡_};
 ghost use Rattle.chart.specs.Chart.{chartOf};
-ghost use Rattle.run.specs.Apart.{runOf};
+ghost use Rattle.run.specs.Apart.{wordsAt, runOf};
 ghost use Rattle.tally.specs.Tallying.{tallyOf};
 ghost use Rattle.tally.specs.Weighing.{weighOf};
-ghost use Rattle.desk.specs.Lent.{wordsAt, talliedAs, weighedAs};
+ghost use Rattle.desk.specs.Lent.{talliedAs, weighedAs};
 use run::Words;
 
 // The tally: the number, and the cases passed, failed and not run.
@@ -39,11 +39,12 @@ pub extern "C" fn tolwaziho_tally<'a>(
     timers: &'a [u32; 32],
     good: u64,
     bad: u64,
+    hold: u8,
     passed: &mut usize,
     failed: &mut usize,
     notrun: &mut usize,
 ) -> u8
-    ensures { λ r. ⌜ talliedAs r (now (passed .exit)) (now (failed .exit)) (now (notrun .exit)) ≡ tallyOf (chartOf steps actions transitions blocks cases (now (initial .entry)) (now (output .entry)) (now (value .entry)) (now (sources .entry)) (now (targets .entry)) (now (on .entry)) (now (off .entry)) (now (wait .entry)) (now (blockstep .entry)) (now (blockaction .entry)) (now (qualifier .entry)) (now (duration .entry)) (now (casestep .entry)) (now (signal .entry)) (now (expected .entry))) (runOf (wordsAt clock active activity stored latched good bad) (now (counters .entry)) (now (timers .entry))) ⌝ }
+    ensures { λ r. ⌜ talliedAs r (now (passed .exit)) (now (failed .exit)) (now (notrun .exit)) ≡ tallyOf (chartOf steps actions transitions blocks cases (now (initial .entry)) (now (output .entry)) (now (value .entry)) (now (sources .entry)) (now (targets .entry)) (now (on .entry)) (now (off .entry)) (now (wait .entry)) (now (blockstep .entry)) (now (blockaction .entry)) (now (qualifier .entry)) (now (duration .entry)) (now (casestep .entry)) (now (signal .entry)) (now (expected .entry))) (runOf (wordsAt clock active activity stored latched good bad hold) (now (counters .entry)) (now (timers .entry))) ⌝ }
 {
     let words = Words {
         clock,
@@ -53,6 +54,7 @@ pub extern "C" fn tolwaziho_tally<'a>(
         latched,
         good,
         bad,
+        hold,
     };
     let t = tally::tally_on(
         steps,

@@ -1,12 +1,11 @@
 // Calls on a run where it lies: its words are lent one by one, and go in and out by value below; its counters and timers are lent on.
 ghost use mathlib.Core.Path.{_≡_};
 ghost use Rattle.chart.specs.Chart.{chartOf};
-ghost use Rattle.run.specs.Apart.{runOf};
+ghost use Rattle.run.specs.Apart.{wordsAt, runOf};
 ghost use Rattle.cycle.specs.Cycling.{cycleOn};
 ghost use Rattle.passes.specs.Explaining.{noReasons};
 ghost use Rattle.calls.specs.Starting.{startOn};
 ghost use Rattle.shift.specs.Shifting.{shiftOf};
-ghost use Rattle.desk.specs.Lent.{wordsAt};
 ghost use Rattle.engine.specs.Lent.{left, shiftLeft};
 use chart::Chart;
 use run::Words;
@@ -20,8 +19,9 @@ fn put_words(
     latched: &mut u64,
     good: &mut u64,
     bad: &mut u64,
+    hold: &mut u8,
 )
-    ensures { λ _. ⌜ wordsAt (now (clock .exit)) (now (active .exit)) (now (activity .exit)) (now (stored .exit)) (now (latched .exit)) (now (good .exit)) (now (bad .exit)) ≡ words ⌝ }
+    ensures { λ _. ⌜ wordsAt (now (clock .exit)) (now (active .exit)) (now (activity .exit)) (now (stored .exit)) (now (latched .exit)) (now (good .exit)) (now (bad .exit)) (now (hold .exit)) ≡ words ⌝ }
 {
     *clock = words.clock;
     *active = words.active;
@@ -30,6 +30,7 @@ fn put_words(
     *latched = words.latched;
     *good = words.good;
     *bad = words.bad;
+    *hold = words.hold;
 }
 
 // Start: the number.
@@ -64,10 +65,11 @@ pub extern "C" fn tolwaziho_start<'a>(
     timers: &mut [u32; 32],
     good: &mut u64,
     bad: &mut u64,
+    hold: &mut u8,
     new: u32,
     outputs: &mut [i32],
 ) -> u8
-    ensures { λ r. ⌜ (r, 0, noReasons, (wordsAt (now (clock .exit)) (now (active .exit)) (now (activity .exit)) (now (stored .exit)) (now (latched .exit)) (now (good .exit)) (now (bad .exit)), now (counters .exit), now (timers .exit)), now (outputs .exit)) ≡ left (startOn (chartOf steps actions transitions blocks cases (now (initial .entry)) (now (output .entry)) (now (value .entry)) (now (sources .entry)) (now (targets .entry)) (now (on .entry)) (now (off .entry)) (now (wait .entry)) (now (blockstep .entry)) (now (blockaction .entry)) (now (qualifier .entry)) (now (duration .entry)) (now (casestep .entry)) (now (signal .entry)) (now (expected .entry))) new (now (outputs .entry))) ⌝ }
+    ensures { λ r. ⌜ (r, 0, noReasons, (wordsAt (now (clock .exit)) (now (active .exit)) (now (activity .exit)) (now (stored .exit)) (now (latched .exit)) (now (good .exit)) (now (bad .exit)) (now (hold .exit)), now (counters .exit), now (timers .exit)), now (outputs .exit)) ≡ left (startOn (chartOf steps actions transitions blocks cases (now (initial .entry)) (now (output .entry)) (now (value .entry)) (now (sources .entry)) (now (targets .entry)) (now (on .entry)) (now (off .entry)) (now (wait .entry)) (now (blockstep .entry)) (now (blockaction .entry)) (now (qualifier .entry)) (now (duration .entry)) (now (casestep .entry)) (now (signal .entry)) (now (expected .entry))) new (now (outputs .entry))) ⌝ }
 {
     let o = calls::start_on(
         steps,
@@ -93,7 +95,17 @@ pub extern "C" fn tolwaziho_start<'a>(
         new,
         outputs,
     );
-    put_words(o.words, clock, active, activity, stored, latched, good, bad);
+    put_words(
+        o.words,
+        clock,
+        active,
+        activity,
+        stored,
+        latched,
+        good,
+        bad,
+        hold,
+    );
     *counters = [0; 64];
     *timers = [0; 32];
     o.code
@@ -131,13 +143,14 @@ pub extern "C" fn tolwaziho_cycle<'a>(
     timers: &mut [u32; 32],
     good: &mut u64,
     bad: &mut u64,
+    hold: &mut u8,
     new: u32,
     inputs: u32,
     outputs: &mut [i32],
     taken: &mut u64,
     reasons: &mut [u8; 64],
 ) -> u8
-    ensures { λ r. ⌜ (r, now (taken .exit), now (reasons .exit), (wordsAt (now (clock .exit)) (now (active .exit)) (now (activity .exit)) (now (stored .exit)) (now (latched .exit)) (now (good .exit)) (now (bad .exit)), now (counters .exit), now (timers .exit)), now (outputs .exit)) ≡ left (cycleOn (chartOf steps actions transitions blocks cases (now (initial .entry)) (now (output .entry)) (now (value .entry)) (now (sources .entry)) (now (targets .entry)) (now (on .entry)) (now (off .entry)) (now (wait .entry)) (now (blockstep .entry)) (now (blockaction .entry)) (now (qualifier .entry)) (now (duration .entry)) (now (casestep .entry)) (now (signal .entry)) (now (expected .entry))) (runOf (wordsAt (now (clock .entry)) (now (active .entry)) (now (activity .entry)) (now (stored .entry)) (now (latched .entry)) (now (good .entry)) (now (bad .entry))) (now (counters .entry)) (now (timers .entry))) new inputs (now (outputs .entry))) ⌝ }
+    ensures { λ r. ⌜ (r, now (taken .exit), now (reasons .exit), (wordsAt (now (clock .exit)) (now (active .exit)) (now (activity .exit)) (now (stored .exit)) (now (latched .exit)) (now (good .exit)) (now (bad .exit)) (now (hold .exit)), now (counters .exit), now (timers .exit)), now (outputs .exit)) ≡ left (cycleOn (chartOf steps actions transitions blocks cases (now (initial .entry)) (now (output .entry)) (now (value .entry)) (now (sources .entry)) (now (targets .entry)) (now (on .entry)) (now (off .entry)) (now (wait .entry)) (now (blockstep .entry)) (now (blockaction .entry)) (now (qualifier .entry)) (now (duration .entry)) (now (casestep .entry)) (now (signal .entry)) (now (expected .entry))) (runOf (wordsAt (now (clock .entry)) (now (active .entry)) (now (activity .entry)) (now (stored .entry)) (now (latched .entry)) (now (good .entry)) (now (bad .entry)) (now (hold .entry))) (now (counters .entry)) (now (timers .entry))) new inputs (now (outputs .entry))) ⌝ }
 {
     let words = Words {
         clock: *clock,
@@ -147,6 +160,7 @@ pub extern "C" fn tolwaziho_cycle<'a>(
         latched: *latched,
         good: *good,
         bad: *bad,
+        hold: *hold,
     };
     passes::explain(
         transitions,
@@ -194,7 +208,17 @@ pub extern "C" fn tolwaziho_cycle<'a>(
         outputs,
     );
     passes::keep_if(o.code, reasons);
-    put_words(o.words, clock, active, activity, stored, latched, good, bad);
+    put_words(
+        o.words,
+        clock,
+        active,
+        activity,
+        stored,
+        latched,
+        good,
+        bad,
+        hold,
+    );
     *taken = o.taken;
     o.code
 }
@@ -231,13 +255,14 @@ pub extern "C" fn tolwaziho_shift<'a>(
     timers: &mut [u32; 32],
     good: &mut u64,
     bad: &mut u64,
+    hold: &mut u8,
     clocks: &[u32],
     inputs: &[u32],
     activities: &mut [u64],
     outputs: &mut [i32],
     accepted: &mut usize,
 ) -> u8
-    ensures { λ r. ⌜ (r, now (accepted .exit), (wordsAt (now (clock .exit)) (now (active .exit)) (now (activity .exit)) (now (stored .exit)) (now (latched .exit)) (now (good .exit)) (now (bad .exit)), now (counters .exit), now (timers .exit)), now (activities .exit), now (outputs .exit)) ≡ shiftLeft (shiftOf (chartOf steps actions transitions blocks cases (now (initial .entry)) (now (output .entry)) (now (value .entry)) (now (sources .entry)) (now (targets .entry)) (now (on .entry)) (now (off .entry)) (now (wait .entry)) (now (blockstep .entry)) (now (blockaction .entry)) (now (qualifier .entry)) (now (duration .entry)) (now (casestep .entry)) (now (signal .entry)) (now (expected .entry))) (runOf (wordsAt (now (clock .entry)) (now (active .entry)) (now (activity .entry)) (now (stored .entry)) (now (latched .entry)) (now (good .entry)) (now (bad .entry))) (now (counters .entry)) (now (timers .entry))) (now (clocks .entry)) (now (inputs .entry)) (now (activities .entry)) (now (outputs .entry))) ⌝ }
+    ensures { λ r. ⌜ (r, now (accepted .exit), (wordsAt (now (clock .exit)) (now (active .exit)) (now (activity .exit)) (now (stored .exit)) (now (latched .exit)) (now (good .exit)) (now (bad .exit)) (now (hold .exit)), now (counters .exit), now (timers .exit)), now (activities .exit), now (outputs .exit)) ≡ shiftLeft (shiftOf (chartOf steps actions transitions blocks cases (now (initial .entry)) (now (output .entry)) (now (value .entry)) (now (sources .entry)) (now (targets .entry)) (now (on .entry)) (now (off .entry)) (now (wait .entry)) (now (blockstep .entry)) (now (blockaction .entry)) (now (qualifier .entry)) (now (duration .entry)) (now (casestep .entry)) (now (signal .entry)) (now (expected .entry))) (runOf (wordsAt (now (clock .entry)) (now (active .entry)) (now (activity .entry)) (now (stored .entry)) (now (latched .entry)) (now (good .entry)) (now (bad .entry)) (now (hold .entry))) (now (counters .entry)) (now (timers .entry))) (now (clocks .entry)) (now (inputs .entry)) (now (activities .entry)) (now (outputs .entry))) ⌝ }
 {
     let words = Words {
         clock: *clock,
@@ -247,6 +272,7 @@ pub extern "C" fn tolwaziho_shift<'a>(
         latched: *latched,
         good: *good,
         bad: *bad,
+        hold: *hold,
     };
     let uneven = shift::lists_code(clocks.len(), inputs.len(), activities.len());
     let n = shift::clocks_taken(uneven, clocks.len());
@@ -279,7 +305,17 @@ pub extern "C" fn tolwaziho_shift<'a>(
         activities,
         outputs,
     );
-    put_words(o.words, clock, active, activity, stored, latched, good, bad);
+    put_words(
+        o.words,
+        clock,
+        active,
+        activity,
+        stored,
+        latched,
+        good,
+        bad,
+        hold,
+    );
     *accepted = o.accepted;
     fields::or_else(o.code, uneven)
 }
@@ -316,13 +352,14 @@ pub extern "C" fn tolwaziho_advance<'a>(
     timers: &mut [u32; 32],
     good: &mut u64,
     bad: &mut u64,
+    hold: &mut u8,
     new: u32,
     inputs: u32,
     outputs: &mut [i32],
     taken: &mut u64,
     reasons: &mut [u8; 64],
 ) -> u8
-    ensures { λ r. ⌜ (r, now (taken .exit), now (reasons .exit), (wordsAt (now (clock .exit)) (now (active .exit)) (now (activity .exit)) (now (stored .exit)) (now (latched .exit)) (now (good .exit)) (now (bad .exit)), now (counters .exit), now (timers .exit)), now (outputs .exit)) ≡ left (cycleOn (chartOf steps actions transitions blocks cases (now (initial .entry)) (now (output .entry)) (now (value .entry)) (now (sources .entry)) (now (targets .entry)) (now (on .entry)) (now (off .entry)) (now (wait .entry)) (now (blockstep .entry)) (now (blockaction .entry)) (now (qualifier .entry)) (now (duration .entry)) (now (casestep .entry)) (now (signal .entry)) (now (expected .entry))) (runOf (wordsAt (now (clock .entry)) (now (active .entry)) (now (activity .entry)) (now (stored .entry)) (now (latched .entry)) (now (good .entry)) (now (bad .entry))) (now (counters .entry)) (now (timers .entry))) new inputs (now (outputs .entry))) ⌝ }
+    ensures { λ r. ⌜ (r, now (taken .exit), now (reasons .exit), (wordsAt (now (clock .exit)) (now (active .exit)) (now (activity .exit)) (now (stored .exit)) (now (latched .exit)) (now (good .exit)) (now (bad .exit)) (now (hold .exit)), now (counters .exit), now (timers .exit)), now (outputs .exit)) ≡ left (cycleOn (chartOf steps actions transitions blocks cases (now (initial .entry)) (now (output .entry)) (now (value .entry)) (now (sources .entry)) (now (targets .entry)) (now (on .entry)) (now (off .entry)) (now (wait .entry)) (now (blockstep .entry)) (now (blockaction .entry)) (now (qualifier .entry)) (now (duration .entry)) (now (casestep .entry)) (now (signal .entry)) (now (expected .entry))) (runOf (wordsAt (now (clock .entry)) (now (active .entry)) (now (activity .entry)) (now (stored .entry)) (now (latched .entry)) (now (good .entry)) (now (bad .entry)) (now (hold .entry))) (now (counters .entry)) (now (timers .entry))) new inputs (now (outputs .entry))) ⌝ }
 {
     let words = Words {
         clock: *clock,
@@ -332,6 +369,7 @@ pub extern "C" fn tolwaziho_advance<'a>(
         latched: *latched,
         good: *good,
         bad: *bad,
+        hold: *hold,
     };
     let chart = Chart {
         steps,
@@ -367,7 +405,17 @@ pub extern "C" fn tolwaziho_advance<'a>(
     let counted = run.counters;
     let timed = run.timers;
     let waiting = o.reasons;
-    put_words(after, clock, active, activity, stored, latched, good, bad);
+    put_words(
+        after,
+        clock,
+        active,
+        activity,
+        stored,
+        latched,
+        good,
+        bad,
+        hold,
+    );
     *counters = run::counts_of(counted);
     *timers = run::times_of(timed);
     *taken = o.taken;

@@ -4,14 +4,14 @@ use mathlib.Core.List.{List}
 use mathlib.Core.Path.{_≡_}
 use lib.IntN.{ℤ}
 use Rattle.sets.proofs.Unique.{one-answer}
-use Rattle.choice.specs.Choice.{chosen, reasonsOf}
+use Rattle.choice.specs.Choice.{chosenUnder, reasonsOf}
 use Rattle.choice.specs.declared.Choice.{Choice}
 use Rattle.acting.specs.Acting.{asked}
 use Rattle.acting.specs.declared.Asked.{Asked}
 use Rattle.acting.specs.declared.Steps.{Steps}
 use Rattle.run.specs.Apart.{countersOf}
 use Rattle.run.specs.declared.apart.Words.{Words}
-use Rattle.passes.specs.Time.{elapsed, grownCounts}
+use Rattle.passes.specs.Time.{elapsed, stepTime, grownCounts}
 use Rattle.passes.specs.Choosing.{stepsOf}
 use Rattle.passes.specs.Moving.{marksOf, signalsOf}
 use Rattle.passes.specs.Outputs.{written}
@@ -21,9 +21,12 @@ use Rattle.passes.specs.declared.moving.Marks.{Marks}
 pub elapsed-unique : (last new r q : ℕ) → r ≡ elapsed last new → q ≡ elapsed last new → r ≡ q
 elapsed-unique last new r q = one-answer
 
-pub choose-unique : (n : ℕ) (sources targets on off wait counts : List ℕ) (active signals : ℕ) (r q : Choice)
-    → r ≡ chosen n sources targets on off wait counts active signals → q ≡ chosen n sources targets on off wait counts active signals → r ≡ q
-choose-unique n sources targets on off wait counts active signals r q = one-answer
+pub step-time-unique : (hold e r q : ℕ) → r ≡ stepTime hold e → q ≡ stepTime hold e → r ≡ q
+step-time-unique hold e r q = one-answer
+
+pub choose-unique : (hold n : ℕ) (sources targets on off wait counts : List ℕ) (active signals : ℕ) (r q : Choice)
+    → r ≡ chosenUnder hold n sources targets on off wait counts active signals → q ≡ chosenUnder hold n sources targets on off wait counts active signals → r ≡ q
+choose-unique hold n sources targets on off wait counts active signals r q = one-answer
 
 pub steps-of-unique : (active : ℕ) (choice : Choice) (r q : Steps) → r ≡ stepsOf active choice → q ≡ stepsOf active choice → r ≡ q
 steps-of-unique active choice r q = one-answer
@@ -45,8 +48,8 @@ pub write-outputs-unique : (n : ℕ) (output : List ℕ) (value : List ℤ) (act
 write-outputs-unique n output value activity out f g = one-answer
 
 pub explain-unique : (n : ℕ) (sources targets on off wait counts : List ℕ) (words : Words) (clock inputs : ℕ) (f g : List ℕ)
-    → f ≡ reasonsOf n sources targets on off wait (grownCounts (countersOf counts) (words .active) (elapsed (words .clock) clock)) (words .active) (signalsOf inputs (words .activity))
-    → g ≡ reasonsOf n sources targets on off wait (grownCounts (countersOf counts) (words .active) (elapsed (words .clock) clock)) (words .active) (signalsOf inputs (words .activity)) → f ≡ g
+    → f ≡ reasonsOf (words .hold) n sources targets on off wait (grownCounts (countersOf counts) (words .active) (stepTime (words .hold) (elapsed (words .clock) clock))) (words .active) (signalsOf inputs (words .activity))
+    → g ≡ reasonsOf (words .hold) n sources targets on off wait (grownCounts (countersOf counts) (words .active) (stepTime (words .hold) (elapsed (words .clock) clock))) (words .active) (signalsOf inputs (words .activity)) → f ≡ g
 explain-unique n sources targets on off wait counts words clock inputs f g = one-answer
 
 pub keep-if-unique : (code : ℕ) (reasons f g : List ℕ) → f ≡ keptIf code reasons → g ≡ keptIf code reasons → f ≡ g

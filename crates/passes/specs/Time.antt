@@ -6,12 +6,17 @@ use mathlib.Core.Bool.{cond}
 use lib.ListN.{getD}
 use Rattle.sets.specs.Sets.{has}
 use Rattle.sets.specs.Loops.{table}
+use Rattle.choice.specs.Choice.{held}
 use Rattle.run.specs.Run.{counter, timer, longerCounter, longerTimer}
 use Rattle.run.specs.declared.run.StepCounter.{StepCounter}
 use Rattle.run.specs.declared.run.ActionTimer.{ActionTimer}
 
 abbrev pub elapsed : ℕ → ℕ → ℕ
 elapsed last new = (new + 2 ^ 32 - last) % 2 ^ 32
+
+-- what of it counts for steps. Document 02, request (vii): "In a cycle under hold .. step counters stand still, while action timers run on."
+abbrev pub stepTime : ℕ → ℕ → ℕ
+stepTime hold e = cond (held hold) 0 e
 
 -- the counter of a step that is not active is 0
 abbrev pub grownCount : ℕ → ℕ → ℕ → StepCounter → ℕ

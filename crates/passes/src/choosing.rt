@@ -1,12 +1,13 @@
-// Paragraph 2 of "One cycle": which transitions are taken, in number order.
+// Paragraph 2 of "One cycle": which transitions are taken, in number order; under hold none (document 02, request vii).
 ghost use mathlib.Core.Path.{_≡_};
 ghost use Prim.Native.Nat.{min};
-ghost use Rattle.choice.specs.Choice.{chosen};
+ghost use Rattle.choice.specs.Choice.{chosenUnder};
 ghost use Rattle.passes.specs.Choosing.{stepsOf};
 use acting::Steps;
 use choice::Choice;
 
 pub fn choose<'a>(
+    hold: u8,
     n: usize,
     sources: &'a [u64; 64],
     targets: &'a [u64; 64],
@@ -17,13 +18,16 @@ pub fn choose<'a>(
     active: u64,
     signals: u64,
 ) -> Choice
-    ensures { λ r. ⌜ r ≡ chosen (min n 64) (now (sources .entry)) (now (targets .entry)) (now (on .entry)) (now (off .entry)) (now (wait .entry)) (now (counts .entry)) active signals ⌝ }
+    ensures { λ r. ⌜ r ≡ chosenUnder hold (min n 64) (now (sources .entry)) (now (targets .entry)) (now (on .entry)) (now (off .entry)) (now (wait .entry)) (now (counts .entry)) active signals ⌝ }
 {
     let mut choice = Choice {
         taken: 0,
         left: 0,
         claimed: 0,
     };
+    if hold == 1 {
+        return choice;
+    }
     let last = chart::at_most(n, 64);
     let mut t = 0;
     while t < last {

@@ -3,7 +3,7 @@
 ghost use mathlib.Core.Path.{_≡_};
 ghost use Rattle.choice.specs.Choice.{reasonsOf};
 ghost use Rattle.run.specs.Apart.{countersOf};
-ghost use Rattle.passes.specs.Time.{elapsed, grownCounts};
+ghost use Rattle.passes.specs.Time.{elapsed, stepTime, grownCounts};
 ghost use Rattle.passes.specs.Moving.{signalsOf};
 ghost use Rattle.passes.specs.Explaining.{keptIf};
 use crate::moving;
@@ -23,8 +23,12 @@ pub fn explain<'a>(
     inputs: u32,
     reasons: &mut [u8; 64],
 )
-    ensures { λ _. ⌜ now (reasons .exit) ≡ reasonsOf transitions (now (sources .entry)) (now (targets .entry)) (now (on .entry)) (now (off .entry)) (now (wait .entry)) (grownCounts (countersOf (now (counts .entry))) (words .active) (elapsed (words .clock) clock)) (words .active) (signalsOf inputs (words .activity)) ⌝ }
+    ensures { λ _. ⌜ now (reasons .exit) ≡ reasonsOf (words .hold) transitions (now (sources .entry)) (now (targets .entry)) (now (on .entry)) (now (off .entry)) (now (wait .entry)) (grownCounts (countersOf (now (counts .entry))) (words .active) (stepTime (words .hold) (elapsed (words .clock) clock))) (words .active) (signalsOf inputs (words .activity)) ⌝ }
 {
+    if words.hold == 1 {
+        choice::hold_all(transitions, reasons);
+        return;
+    }
     let e = time::elapsed(words.clock, clock);
     let grown = time::grown_counts(counts, words.active, e);
     let signals = moving::signals_of(inputs, words.activity);

@@ -15,3 +15,4 @@ pub use moving::marks_of;
 pub use moving::signals_of;
 pub use outputs::write_outputs;
 pub use time::elapsed;
+pub use time::step_time;

@@ -99,7 +99,7 @@ pub(crate) fn refused_line(line: &mut [u8], number: u64, code: u8) -> usize
 
 // A digit for each of the first n reasons, and the line end.
 pub(crate) fn reasons_line(line: &mut [u8], at: usize, n: usize, reasons: &[u8; 64]) -> usize
-    requires { ⌜ (at + (n + 1) ≤ length (now line)) × (n ≤ 64) × ((k : ℕ) → k < 64 → getD (now reasons) k 0 ≤ 6) ⌝ }
+    requires { ⌜ (at + (n + 1) ≤ length (now line)) × (n ≤ 64) × ((k : ℕ) → k < 64 → getD (now reasons) k 0 ≤ 7) ⌝ }
     ensures { λ r. ⌜ Put (now (line .entry)) at (reasonsLine n (now (reasons .entry))) (now (line .exit)) r ⌝ }
 {
     let mut t = 0;

@@ -64,7 +64,7 @@ fn call_line(
 
 // A cycle's line, and behind it the reasons, if it was accepted and took nothing (document 02, request vi).
 fn cycle_lines(line: &mut [u8], number: u64, transitions: usize, o: Cycled) -> usize
-    requires { ⌜ (129 ≤ length (now line)) × (o .code ≡ 0 → transitions ≤ 64) × ((k : ℕ) → k < 64 → getD (o .reasons) k 0 ≤ 6) ⌝ }
+    requires { ⌜ (129 ≤ length (now line)) × (o .code ≡ 0 → transitions ≤ 64) × ((k : ℕ) → k < 64 → getD (o .reasons) k 0 ≤ 7) ⌝ }
     ensures { λ r. ⌜ Put (now (line .entry)) 0 (lineOf number o ++ secondLine transitions o) (now (line .exit)) r × (r ≤ 129) ⌝ }
 {
     let run = o.run;

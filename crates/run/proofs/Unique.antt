@@ -6,7 +6,7 @@ use mathlib.Core.Path.{_≡_}
 use Rattle.sets.proofs.Unique.{one-answer}
 use Rattle.run.specs.Run.{noRun, longerCounter, longerTimer}
 use Rattle.run.specs.Apart.{wordsOf, countsOf, timesOf, runOf}
-use Rattle.run.specs.Belongs.{belongsTo}
+use Rattle.run.specs.Belongs.{belongsTo, ownAfter}
 use Rattle.run.specs.declared.apart.Words.{Words}
 use Rattle.run.specs.declared.run.StepCounter.{StepCounter}
 use Rattle.run.specs.declared.run.ActionTimer.{ActionTimer}
@@ -36,3 +36,6 @@ run-of-unique w counts times r q = one-answer
 pub parts-belong-unique : (words : Words) (counts times : List ℕ) (steps actions cases : ℕ) (r q : Bool)
     → r ≡ belongsTo steps actions cases (runOf words counts times) → q ≡ belongsTo steps actions cases (runOf words counts times) → r ≡ q
 parts-belong-unique words counts times steps actions cases r q = one-answer
+
+pub own-code-unique : (held steps actions cases : ℕ) (run : Run) (r q : ℕ) → r ≡ ownAfter held steps actions cases run → q ≡ ownAfter held steps actions cases run → r ≡ q
+own-code-unique held steps actions cases run r q = one-answer

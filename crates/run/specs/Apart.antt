@@ -18,7 +18,13 @@ wordsOf r = record {
   latched = r .latched;
   good = r .good;
   bad = r .bad;
+  hold = r .hold;
 }
+
+-- the words of a run, lent one by one
+abbrev pub wordsAt : ℕ → ℕ → ℕ → ℕ → ℕ → ℕ → ℕ → ℕ → Words
+wordsAt clock active activity stored latched good bad hold =
+    record { clock = clock; active = active; activity = activity; stored = stored; latched = latched; good = good; bad = bad; hold = hold }
 
 abbrev pub countsOf : List StepCounter → List ℕ
 countsOf counters = table (λ k. getD counters k (counter 0) .0) 64
@@ -43,4 +49,5 @@ runOf w counts times = record {
   timers = timersOf times;
   good = w .good;
   bad = w .bad;
+  hold = w .hold;
 }

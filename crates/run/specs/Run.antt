@@ -35,4 +35,5 @@ noRun = record {
   timers = replicate 32 (timer 0);
   good = 0;
   bad = 0;
+  hold = 0;
 }

@@ -15,6 +15,7 @@ pub struct Words {
     pub latched: u64,
     pub good: u64,
     pub bad: u64,
+    pub hold: u8,
 }
 
 pub fn words_of(run: Run) -> Words
@@ -28,6 +29,7 @@ pub fn words_of(run: Run) -> Words
         latched: run.latched,
         good: run.good,
         bad: run.bad,
+        hold: run.hold,
     }
 }
 
@@ -99,5 +101,6 @@ pub fn run_of(words: Words, counts: [u32; 64], times: [u32; 32]) -> Run
         timers: timers_of(times),
         good: words.good,
         bad: words.bad,
+        hold: words.hold,
     }
 }

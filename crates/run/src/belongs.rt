@@ -7,8 +7,9 @@ ghost use lib.ListN.{length, getD};
 ghost use Rattle.sets.specs.Loops.{all, counted};
 ghost use Rattle.run.specs.Apart.{runOf};
 ghost use Rattle.run.specs.Run.{longest};
-ghost use Rattle.run.specs.Belongs.{countFits, namesFit, belongsTo};
+ghost use Rattle.run.specs.Belongs.{countFits, namesFit, belongsTo, ownAfter};
 use crate::apart::Words;
+use crate::codes::OTHER_RUN;
 use crate::run::LONGEST;
 
 // Not 0, and no longer than a member's count may be.
@@ -95,5 +96,24 @@ pub fn parts_belong(
         words.good,
         words.bad,
     );
-    names & counts_fit(counts, words.active) & counts_fit(times, words.latched % 4_294_967_296)
+    names
+        & counts_fit(counts, words.active)
+        & counts_fit(times, words.latched % 4_294_967_296)
+        & (words.hold <= 1)
+}
+
+// The chart's number, then 12.
+pub fn own_code(
+    held: u8,
+    words: Words,
+    counts: &[u32; 64],
+    times: &[u32; 32],
+    steps: usize,
+    actions: usize,
+    cases: usize,
+) -> u8
+    ensures { λ r. ⌜ (r ≡ ownAfter held steps actions cases (runOf words (now (counts .entry)) (now (times .entry)))) × (length (now (counts .entry)) ≡ 64) × (length (now (times .entry)) ≡ 32) ⌝ }
+{
+    let own = parts_belong(words, counts, times, steps, actions, cases);
+    fields::or_else(held, fields::unless(own, OTHER_RUN))
 }

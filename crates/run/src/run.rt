@@ -1,4 +1,5 @@
-// A run as it is held. Step counters and action timers are two types: one is never handed over for the other.
+// A run as it is kept. Step counters and action timers are two types: one is never handed over for the other. The hold mark is 1 while the key holds
+// the run, else 0 (document 02, request vii).
 ghost use mathlib.Core.Path.{_≡_};
 ghost use Rattle.run.specs.Run.{noRun, longer, longerCounter, longerTimer};
 
@@ -16,6 +17,7 @@ pub struct Run {
     pub timers: [ActionTimer; 32],
     pub good: u64,
     pub bad: u64,
+    pub hold: u8,
 }
 
 pub const LONGEST: u32 = 86_400_000;
@@ -61,5 +63,6 @@ pub fn no_run() -> Run
         timers: [ActionTimer(0); 32],
         good: 0,
         bad: 0,
+        hold: 0,
     }
 }

@@ -2,12 +2,10 @@
 use Prim.Native.Nat.{ℕ}
 use mathlib.Core.Bool.{Bool, _&&_, _||_, not, cond}
 use lib.Dec.{eqb}
-use Rattle.sets.specs.Loops.{orElse, counted}
+use Rattle.sets.specs.Loops.{counted}
 use Rattle.sets.specs.Sets.{has}
-use Rattle.fields.specs.Fields.{unless}
-use Rattle.chart.specs.Held.{chartCode}
 use Rattle.chart.specs.declared.chart.Chart.{Chart}
-use Rattle.run.specs.Belongs.{belongs}
+use Rattle.run.specs.Belongs.{ownCode}
 use Rattle.run.specs.declared.run.Run.{Run}
 use Rattle.tally.specs.declared.tallying.Tallied.{Tallied}
 
@@ -33,9 +31,6 @@ countsOf cases good bad = record {
 abbrev pub refused : ℕ → Tallied
 refused code = record { code = code; passed = 0; failed = 0; notrun = 0 }
 
--- "the tally chart, 12"
-abbrev pub tallyCode : Chart → Run → ℕ
-tallyCode c r = orElse (chartCode c) (unless (belongs c r) 12)
-
+-- "the tally [tests] chart, 12"
 abbrev pub tallyOf : Chart → Run → Tallied
-tallyOf c r = cond (eqb (tallyCode c r) 0) (countsOf (c .cases) (r .good) (r .bad)) (refused (tallyCode c r))
+tallyOf c r = cond (eqb (ownCode c r) 0) (countsOf (c .cases) (r .good) (r .bad)) (refused (ownCode c r))

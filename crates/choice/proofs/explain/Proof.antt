@@ -10,7 +10,7 @@ use Rattle.choice.proofs.explain.Tie as tie
 
 abbrev Inv-loop : tie.InvT-loop
 Inv-loop n sources targets on off wait counts active signals reasons₀ choice₀ last t₀ reasons choice t =
-    (choice ≡ chosen t sources targets on off wait counts active signals) × (reasons ≡ reasonsOf t sources targets on off wait counts active signals) × (t ≤ last)
+    (choice ≡ chosen t sources targets on off wait counts active signals) × (reasons ≡ reasonsOf 0 t sources targets on off wait counts active signals) × (t ≤ last)
 
 abbrev μ-loop : tie.MeasureT-loop
 μ-loop n sources targets on off wait counts active signals reasons₀ choice₀ last t₀ reasons choice t = last - t

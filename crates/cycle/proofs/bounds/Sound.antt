@@ -20,13 +20,12 @@ use Rattle.acting.specs.declared.Request.{Request}
 use Rattle.acting.specs.declared.Asked.{Asked}
 use Rattle.acting.specs.declared.Acted.{Acted}
 use Rattle.run.specs.declared.run.Run.{Run}
-use Rattle.passes.specs.Time.{elapsed, grownCounts, grownTimes}
 use Rattle.passes.specs.Choosing.{stepsOf}
 use Rattle.passes.specs.Moving.{goodAt, badAt, marksOf, signalsOf}
 use Rattle.passes.specs.Outputs.{first, drives, outputsOf}
 use Rattle.cycle.specs.Bounds.{bounded}
 use Rattle.passes.specs.Rests.{rests}
-use Rattle.cycle.specs.Cycling.{accepted, actedOn, settled, choiceOf, reasonsIn, marksAt, movedBy, cycled, outputsAfter}
+use Rattle.cycle.specs.Cycling.{accepted, actedOn, settled, countsAt, timesAt, choiceOf, reasonsIn, marksAt, movedBy, cycled, outputsAfter}
 use Rattle.passes.specs.declared.moving.Marks.{Marks}
 use Rattle.cycle.specs.declared.cycling.Cycled.{Cycled}
 use Rattle.passes.proofs.rests.Laws.{rest-at}
@@ -107,15 +106,14 @@ module _ (c : Chart) (s : Sound c) where
   moved-bounded : (r : Run) (clock : ℕ) (counts times : List ℕ) (signals : ℕ) (ch : Choice)
       → movedBy (bounded c) r clock counts times signals ch ≡ movedBy c r clock counts times signals ch
   moved-bounded r clock counts times signals ch =
-      ap₂ (λ (x : Acted) (m : Marks). settled clock counts times (stepsOf (r .active) ch) x (union (r .good) (m .good)) (union (r .bad) (m .bad)))
+      ap₂ (λ (x : Acted) (m : Marks). settled clock counts times (stepsOf (r .active) ch) x (union (r .good) (m .good)) (union (r .bad) (m .bad)) (r .hold))
       (acted-bounded counts times (stepsOf (r .active) ch) (r .stored) (r .latched)) (marks-bounded (ch .left) signals)
 
   -- so its cycle is the same
   pub cycled-bounded : (r : Run) (clock inputs : ℕ) → cycled (bounded c) r clock inputs ≡ cycled c r clock inputs
   cycled-bounded r clock inputs =
-      let e = elapsed (r .clock) clock in
-      let counts = grownCounts (r .counters) (r .active) e in
-      let times = grownTimes (r .timers) (r .latched) e in
+      let counts = countsAt r clock in
+      let times = timesAt r clock in
       let signals = signalsOf inputs (r .activity) in
       ap₂ (λ (ch : Choice) (why : List ℕ). accepted (ch .taken) why (movedBy (bounded c) r clock counts times signals ch)) (choice-bounded r counts signals) (reasons-bounded r counts signals)
       ∙ ap (accepted (choiceOf c r counts signals .taken) (reasonsIn c r counts signals)) (moved-bounded r clock counts times signals (choiceOf c r counts signals))

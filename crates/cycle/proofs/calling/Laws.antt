@@ -16,9 +16,8 @@ use Rattle.run.specs.declared.apart.Words.{Words}
 use Rattle.run.specs.declared.run.Run.{Run}
 use Rattle.run.proofs.apart.Laws.{same-counts, same-times, put-together}
 use Rattle.choice.proofs.Laws.{reasons-most}
-use Rattle.passes.specs.Time.{elapsed, grownCounts}
 use Rattle.passes.specs.Moving.{signalsOf}
-use Rattle.cycle.specs.Cycling.{refused, readyCode, cycleCode, cycled, cycleOf, outputsAfter, cycleOn, whyIn}
+use Rattle.cycle.specs.Cycling.{refused, countsAt, readyCode, cycleCode, cycled, cycleOf, outputsAfter, cycleOn, whyIn}
 use Rattle.passes.specs.Explaining.{keptIf, noReasons}
 use Rattle.cycle.specs.Calling.{Calls, noCalls, called, onward, singly, callsOn, InParts, inParts}
 use Rattle.cycle.specs.declared.cycling.Cycled.{Cycled}
@@ -140,11 +139,11 @@ why-kept c r clock inputs lent = go (eqb (cycleCode c r clock lent) 0) refl
     go true e = refl
     go false e = rw e
 
-pub why-most : (c : Chart) (r : Run) (clock inputs lent k : ℕ) → k < 64 → getD (cycleOf c r clock inputs lent .reasons) k 0 ≤ 6
+pub why-most : (c : Chart) (r : Run) (clock inputs lent k : ℕ) → k < 64 → getD (cycleOf c r clock inputs lent .reasons) k 0 ≤ 7
 why-most c r clock inputs lent k l = rw (why-kept c r clock inputs lent) (go (eqb (cycleOf c r clock inputs lent .code) 0))
   where
-    go : (b : Bool) → getD (cond b (whyIn c r clock inputs) noReasons) k 0 ≤ 6
-    go true = reasons-most (c .sources) (c .targets) (c .on) (c .off) (c .wait) (grownCounts (r .counters) (r .active) (elapsed (r .clock) clock)) (r .active) (signalsOf inputs (r .activity)) (c .transitions) k l
+    go : (b : Bool) → getD (cond b (whyIn c r clock inputs) noReasons) k 0 ≤ 7
+    go true = reasons-most (r .hold) (c .sources) (c .targets) (c .on) (c .off) (c .wait) (countsAt r clock) (r .active) (signalsOf inputs (r .activity)) (c .transitions) k l
     go false = let z : getD noReasons k 0 ≡ 0 = getD-replicate 64 k 0 0 l in omega arith
 
 -- with the reasons, which the calls do not make, beside it

@@ -17,7 +17,7 @@ use Rattle.chart.specs.Held.{chartCode}
 use Rattle.chart.specs.Initial.{initialSet}
 use Rattle.chart.specs.declared.chart.Chart.{Chart}
 use Rattle.chart.proofs.held.Sound.{Sound, sound}
-use Rattle.choice.specs.Choice.{reason, takes, choosingAt, noneTaken, chosen}
+use Rattle.choice.specs.Choice.{reason, takes, choosingAt, noneTaken, chosen, held}
 use Rattle.choice.specs.declared.Choice.{Choice}
 use Rattle.acting.specs.Acting.{keptCount, sets, latches, wants, requestOf, asked, storedAfter, latchedAfter, acted}
 use Rattle.acting.specs.declared.Steps.{Steps}
@@ -27,10 +27,10 @@ use Rattle.run.specs.Run.{longest, longer, counter, timer, noRun}
 use Rattle.run.specs.Belongs.{countFits, countersFit, timersFit, belongs}
 use Rattle.run.specs.declared.run.Run.{Run}
 use Rattle.run.proofs.belongs.Laws.{Own, own, is-own}
-use Rattle.passes.specs.Time.{elapsed, grownCount, grownTime, grownCounts, grownTimes}
+use Rattle.passes.specs.Time.{elapsed, stepTime, grownCount, grownTime}
 use Rattle.passes.specs.Choosing.{movedTo, stepsOf}
 use Rattle.passes.specs.Moving.{settledCounters, settledTimers, marksOf, signalsOf}
-use Rattle.cycle.specs.Cycling.{refused, startCode, cycleCode, actedOn, startSteps, started, startOf, choiceOf, cycled, cycleOf}
+use Rattle.cycle.specs.Cycling.{refused, startCode, cycleCode, actedOn, startSteps, started, startOf, countsAt, timesAt, choiceOf, cycled, cycleOf}
 use Rattle.cycle.specs.declared.cycling.Cycled.{Cycled}
 use Rattle.cycle.proofs.cycling.Laws.{cycle-passed}
 
@@ -122,6 +122,12 @@ claimed-below (suc n) steps sources targets on off wait counts active signals h 
     go true e = below-union (before .claimed) (getD targets n 0) steps e (h n (omega arith))
     go false e = e
 
+-- under hold none is claimed
+claimed-under : (b : Bool) (n steps : ℕ) (sources targets on off wait counts : List ℕ) (active signals : ℕ) → ((t : ℕ) → t < n → Below (getD targets t 0) steps ≡ true)
+    → Below (cond b noneTaken (chosen n sources targets on off wait counts active signals) .claimed) steps ≡ true
+claimed-under true n steps sources targets on off wait counts active signals h = below-zero steps
+claimed-under false n steps sources targets on off wait counts active signals h = claimed-below n steps sources targets on off wait counts active signals h
+
 -- ---- start, and a cycle
 
 started-own : (c : Chart) (clock : ℕ) → Sound c → Own c (started c clock .run)
@@ -137,28 +143,31 @@ started-own c clock s =
       bad = below-zero (c .cases);
       counters = counters-fit (replicate 64 0) _ 0 (λ k l. blank 64 k) (λ k l e. let z : false ≡ true = sym (has-zero k) ∙ e in cc);
       timers = timers-fit (replicate 32 0) _ (λ k l. blank 32 k);
+      hold = refl;
     }
 
 cycled-own : (c : Chart) (r : Run) (clock inputs : ℕ) → Sound c → Own c r → Own c (cycled c r clock inputs .run)
 unfolding marksOf
 cycled-own c r clock inputs s o =
     let e = elapsed (r .clock) clock in
-    let counts = grownCounts (r .counters) (r .active) e in
-    let times = grownTimes (r .timers) (r .latched) e in
+    let f = stepTime (r .hold) e in
+    let counts = countsAt r clock in
+    let times = timesAt r clock in
     let signals = signalsOf inputs (r .activity) in
     let ch = choiceOf c r counts signals in
     let x = actions-below c counts times (stepsOf (r .active) ch) (r .stored) (r .latched) s (o .stored) (o .latched) in
     record {
-      active = below-union _ _ (c .steps) (below-minus (r .active) (ch .left) (c .steps) (o .active)) (claimed-below (c .transitions) (c .steps) (c .sources) (c .targets) (c .on) (c .off) (c .wait) counts (r .active) signals (s .targets));
+      active = below-union _ _ (c .steps) (below-minus (r .active) (ch .left) (c .steps) (o .active)) (claimed-under (held (r .hold)) (c .transitions) (c .steps) (c .sources) (c .targets) (c .on) (c .off) (c .wait) counts (r .active) signals (s .targets));
       activity = x .activity;
       stored = x .stored;
       latched = x .latched;
       good = below-union (r .good) _ (c .cases) (o .good) (below-collect _ (c .cases) (c .cases) (omega arith));
       bad = below-union (r .bad) _ (c .cases) (o .bad) (below-collect _ (c .cases) (c .cases) (omega arith));
       counters = counters-fit counts (movedTo (r .active) ch) (minus (movedTo (r .active) ch) (ch .claimed))
-          (λ k l. rw (getD-table (λ k. grownCount (r .active) e k (getD (r .counters) k (counter 0))) 64 k 0 l) (grown-fits (has (r .active) k) _ e))
+          (λ k l. rw (getD-table (λ k. grownCount (r .active) f k (getD (r .counters) k (counter 0))) 64 k 0 l) (grown-fits (has (r .active) k) _ f))
           (λ k l h. and-true (has (movedTo (r .active) ch) k) (not (has (ch .claimed) k)) (sym (has-minus (movedTo (r .active) ch) (ch .claimed) k l) ∙ h) .0);
       timers = timers-fit times _ (λ k l. rw (getD-table (λ k. grownTime (r .latched) e k (getD (r .timers) k (timer 0))) 32 k 0 l) (grown-fits (has (r .latched) k) _ e));
+      hold = o .hold;
     }
 
 -- ---- the theorems

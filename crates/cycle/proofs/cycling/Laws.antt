@@ -23,7 +23,7 @@ use Rattle.run.specs.Belongs.{belongs}
 use Rattle.run.specs.declared.run.StepCounter.{StepCounter}
 use Rattle.run.specs.declared.run.ActionTimer.{ActionTimer}
 use Rattle.run.specs.declared.run.Run.{Run}
-use Rattle.passes.specs.Time.{elapsed, grownCounts, grownTimes}
+use Rattle.passes.specs.Time.{elapsed, stepTime, grownCounts, grownTimes}
 use Rattle.passes.specs.Moving.{settledCounters, settledTimers, signalsOf}
 use Rattle.passes.specs.Choosing.{stepsOf}
 use Rattle.passes.specs.Outputs.{outputsOf}
@@ -112,16 +112,17 @@ pub started-as : (c : Chart) (clock i : ℕ) (x : Acted) (cs : List StepCounter)
     → x ≡ actedOn c (replicate 64 0) (replicate 32 0) (record { active = i; entered = i; left = 0; kept = 0 }) 0 0
     → cs ≡ settledCounters (replicate 64 0) 0
     → ts ≡ settledTimers (replicate 32 0) (x .latched)
-    → accepted 0 noReasons (record { clock = clock; active = i; activity = x .activity; stored = x .stored; latched = x .latched; counters = cs; timers = ts; good = 0; bad = 0 })
+    → accepted 0 noReasons (record { clock = clock; active = i; activity = x .activity; stored = x .stored; latched = x .latched; counters = cs; timers = ts; good = 0; bad = 0; hold = 0 })
     ≡ started c clock
 started-as c clock i x cs ts e f g h = rw (h, g, f, e)
 
 -- ---- the parts of an accepted cycle
 
-pub cycled-as : (c : Chart) (r : Run) (clock inputs e : ℕ) (counts times : List ℕ) (signals : ℕ) (ch : Choice) (st : Steps) (m : Marks) (x : Acted)
+pub cycled-as : (c : Chart) (r : Run) (clock inputs e f : ℕ) (counts times : List ℕ) (signals : ℕ) (ch : Choice) (st : Steps) (m : Marks) (x : Acted)
     (cs : List StepCounter) (ts : List ActionTimer) (good bad : ℕ)
     → e ≡ elapsed (r .clock) clock
-    → counts ≡ grownCounts (r .counters) (r .active) e
+    → f ≡ stepTime (r .hold) e
+    → counts ≡ grownCounts (r .counters) (r .active) f
     → times ≡ grownTimes (r .timers) (r .latched) e
     → signals ≡ signalsOf inputs (r .activity)
     → ch ≡ choiceOf c r counts signals
@@ -144,11 +145,12 @@ pub cycled-as : (c : Chart) (r : Run) (clock inputs e : ℕ) (counts times : Lis
         timers = ts;
         good = good;
         bad = bad;
+        hold = r .hold;
       },
     )
     (cycled c r clock inputs .taken, cycled c r clock inputs .run)
-cycled-as c r clock inputs e counts times signals ch st m x cs ts good bad e₁ e₂ e₃ e₄ e₅ e₆ e₇ e₈ e₉ f₁ f₂ f₃ =
-    rw (f₃, f₂, f₁, e₉, e₈, e₇, e₆, e₅, e₄, e₃, e₂, e₁)
+cycled-as c r clock inputs e f counts times signals ch st m x cs ts good bad e₁ e₀ e₂ e₃ e₄ e₅ e₆ e₇ e₈ e₉ f₁ f₂ f₃ =
+    rw (f₃, f₂, f₁, e₉, e₈, e₇, e₆, e₅, e₄, e₃, e₂, e₀, e₁)
 
 -- and the outputs with them
 pub moved-as : (c : Chart) (r : Run) (clock inputs taken : ℕ) (run : Run) (out after : List ℤ) → _≡_ {A = ℕ × Run} (taken, run) (cycled c r clock inputs .taken, cycled c r clock inputs .run)

@@ -72,7 +72,7 @@ accepted-cycle c r clock inputs lent = go (eqb (cycleCode c r clock lent) 0) ref
 
 -- an accepted cycle has at most 64 reasons to print, and each is one digit
 pub cycle-reasons : (c : Chart) (r : Run) (clock inputs lent : ℕ) (o : Cycled) → o ≡ cycleOf c r clock inputs lent
-    → (o .code ≡ 0 → c .transitions ≤ 64) × ((k : ℕ) → k < 64 → getD (o .reasons) k 0 ≤ 6)
+    → (o .code ≡ 0 → c .transitions ≤ 64) × ((k : ℕ) → k < 64 → getD (o .reasons) k 0 ≤ 7)
 cycle-reasons c r clock inputs lent o e =
     rw e (λ h. sound c (cycle-passed c r clock lent (accepted-cycle c r clock inputs lent h) .chart) .limits .transitions, why-most c r clock inputs lent)
 

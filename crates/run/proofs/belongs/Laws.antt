@@ -25,20 +25,22 @@ pub record Own (c : Chart) (r : Run) : Type 0 where
   pub bad : Below (r .bad) (c .cases) ≡ true
   pub counters : countersFit (r .counters) (r .active) ≡ true
   pub timers : timersFit (r .timers) (r .latched) ≡ true
+  pub hold : leb (r .hold) 1 ≡ true
 
 pub own : (c : Chart) (r : Run) → belongs c r ≡ true → Own c r
 own c r e =
-    let x = and-true _ (timersFit (r .timers) (r .latched)) e in
+    let w = and-true _ (leb (r .hold) 1) e in
+    let x = and-true _ (timersFit (r .timers) (r .latched)) (w .0) in
     let y = and-true _ (countersFit (r .counters) (r .active)) (x .0) in
     let a = and-true _ (Below (r .bad) (c .cases)) (y .0) in
     let b = and-true _ (Below (r .good) (c .cases)) (a .0) in
     let d = and-true _ (Below (r .latched) (c .actions)) (b .0) in
     let f = and-true _ (Below (r .stored) (c .actions)) (d .0) in
     let g = and-true (Below (r .active) (c .steps)) (Below (r .activity) (c .actions)) (f .0) in
-    record { active = g .0; activity = g .1; stored = f .1; latched = d .1; good = b .1; bad = a .1; counters = y .1; timers = x .1 }
+    record { active = g .0; activity = g .1; stored = f .1; latched = d .1; good = b .1; bad = a .1; counters = y .1; timers = x .1; hold = w .1 }
 
 pub is-own : (c : Chart) (r : Run) → Own c r → belongs c r ≡ true
-is-own c r o = rw (o .active, o .activity, o .stored, o .latched, o .good, o .bad, o .counters, o .timers)
+is-own c r o = rw (o .active, o .activity, o .stored, o .latched, o .good, o .bad, o .counters, o .timers, o .hold)
 
 -- the all-zero run belongs to every chart
 none-counters : countersFit (noRun .counters) 0 ≡ true
@@ -59,6 +61,7 @@ none-own c = is-own c noRun (record {
   bad = below-zero (c .cases);
   counters = none-counters;
   timers = none-timers;
+  hold = refl;
 })
 
 -- ---- sets that are tested together

@@ -27,6 +27,9 @@ run s = runOf (s .args .words) (now (s .args .counts)) (now (s .args .times))
 elapsed-requires : tie.Need-elapsed-requires
 elapsed-requires c κs = search needs
 
+step-time-requires : tie.Need-step-time-requires
+step-time-requires c κs = search needs
+
 grow-counts-requires : tie.Need-grow-counts-requires
 grow-counts-requires c κs = search needs
 
@@ -84,7 +87,8 @@ returns c =
     let sensing = choosing .before .before in
     let times = sensing .before in
     let counts = times .before .before in
-    let timing = counts .before .before in
+    let standing = counts .before .before in
+    let timing = standing .before in
     let s = timing .before in
     let a = s .args in
     let st = moving .steps-of .result in
@@ -94,8 +98,8 @@ returns c =
     let counted = counts-now (a .words .active) (st .kept) _ _ (countersOf (now (a .counts))) _ _ grown (clearing .before .without .ensures) (clearing .clear .ensures) in
     let timed = times-now (a .words .latched) (acting .settle .result .latched) _ _ (timersOf (now (a .times))) _ _ older (freeing .before .before .without2 .ensures) (freeing .clear2 .ensures) in (
       moved-as (bounded (chart s)) (run s) (a .clock) (a .inputs) _ _ (now (a .outputs)) _
-          (cycled-as (bounded (chart s)) (run s) (a .clock) (a .inputs) _ _ _ _ (choosing .choose .result) st (marking .marks-of .result) (acting .settle .result) _ _ _ _
-          (timing .elapsed .ensures) grown older (sensing .signals-of .ensures) (choosing .choose .ensures) (moving .steps-of .ensures) (marking .marks-of .ensures)
+          (cycled-as (bounded (chart s)) (run s) (a .clock) (a .inputs) _ _ _ _ _ (choosing .choose .result) st (marking .marks-of .result) (acting .settle .result) _ _ _ _
+          (timing .elapsed .ensures) (standing .step-time .ensures) grown older (sensing .signals-of .ensures) (choosing .choose .ensures) (moving .steps-of .ensures) (marking .marks-of .ensures)
           (x .0 ∙ acted-now (chart s) _ _ _ st (a .words .stored) (a .words .latched) counted) (settled-counts (st .kept) (clearing .clear .last .0) (counts .grow-counts .last .0) counted) (settled-times (acting .settle .result .latched) (freeing .clear2 .last .0) (times .grow-times .last .0) timed)
           (c .before .joined .ensures) (c .joined2 .ensures))
           (rw (le-leb 32 (length (now (a .outputs))) (s .pre .0)) at (x .1)),
@@ -108,6 +112,7 @@ step-spec =
     tie.close
     (tie.spec
     elapsed-requires
+    step-time-requires
     grow-counts-requires
     grow-times-requires
     signals-of-requires

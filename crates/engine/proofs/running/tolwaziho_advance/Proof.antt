@@ -2,9 +2,8 @@
 use denote.Ref.{now}
 use Rattle.chart.specs.Chart.{chartOf}
 use Rattle.chart.specs.declared.chart.Chart.{Chart}
-use Rattle.run.specs.Apart.{runOf}
+use Rattle.run.specs.Apart.{runOf, wordsAt}
 use Rattle.run.specs.declared.run.Run.{Run}
-use Rattle.desk.specs.Lent.{wordsAt}
 use mathlib.Core.Path.{_∙_}
 use Rattle.engine.proofs.running.Laws.{value-left}
 use borrow.Author.Needs.{needs}
@@ -19,7 +18,7 @@ chart s =
 abbrev run : tie.Start → Run
 run s =
     let a = s .args in
-    runOf (wordsAt (now (a .clock)) (now (a .active)) (now (a .activity)) (now (a .stored)) (now (a .latched)) (now (a .good)) (now (a .bad))) (now (a .counters)) (now (a .timers))
+    runOf (wordsAt (now (a .clock)) (now (a .active)) (now (a .activity)) (now (a .stored)) (now (a .latched)) (now (a .good)) (now (a .bad)) (now (a .hold))) (now (a .counters)) (now (a .timers))
 
 run-of-requires : tie.Need-run-of-requires
 run-of-requires c κs = search needs
@@ -45,10 +44,10 @@ same-length c = search needs
 returns : tie.Need-returns
 returns c =
     let put = c .before .before in
-    let words = put .before .before .before .before .before .before .before .before .before .before .before in
+    let words = put .before .before .before .before .before .before .before .before .before .before .before .before in
     let cycling = words .before .before .before in
     let running = cycling .before .before in
-    let s = running .before .before .before .before .before .before .before .before .before .before .before .before .before .before .before .before .before .before .before .before .before .before .before .before .before in
+    let s = running .before .before .before .before .before .before .before .before .before .before .before .before .before .before .before .before .before .before .before .before .before .before .before .before .before .before in
     value-left (chart s) (run s) (running .run-of .result) (s .args .new) (s .args .inputs) (now (s .args .outputs)) _ (cycling .lent-cycle .result) _ _ _
     (running .run-of .ensures) (cycling .lent-cycle .ensures) (put .put-words .ensures ∙ words .words-of .ensures) (c .before .counts-of .ensures .0) (c .times-of .ensures .0)
 

@@ -2,9 +2,8 @@
 use denote.Ref.{now}
 use Rattle.chart.specs.Chart.{chartOf}
 use Rattle.chart.specs.declared.chart.Chart.{Chart}
-use Rattle.run.specs.Apart.{runOf}
+use Rattle.run.specs.Apart.{runOf, wordsAt}
 use Rattle.run.specs.declared.run.Run.{Run}
-use Rattle.desk.specs.Lent.{wordsAt}
 use mathlib.Core.Path.{refl, ap, _∙_}
 use Rattle.passes.specs.Explaining.{keptIf}
 use Rattle.engine.proofs.running.Laws.{cycle-left}
@@ -20,7 +19,7 @@ chart s =
 abbrev run : tie.Start → Run
 run s =
     let a = s .args in
-    runOf (wordsAt (now (a .clock)) (now (a .active)) (now (a .activity)) (now (a .stored)) (now (a .latched)) (now (a .good)) (now (a .bad))) (now (a .counters)) (now (a .timers))
+    runOf (wordsAt (now (a .clock)) (now (a .active)) (now (a .activity)) (now (a .stored)) (now (a .latched)) (now (a .good)) (now (a .bad)) (now (a .hold))) (now (a .counters)) (now (a .timers))
 
 explain-requires : tie.Need-explain-requires
 explain-requires c κs = search needs
@@ -48,10 +47,10 @@ same-length c = search needs
 
 returns : tie.Need-returns
 returns c =
-    let keeping = c .before .before .before .before .before .before .before .before in
+    let keeping = c .before .before .before .before .before .before .before .before .before in
     let calling = keeping .before .before .before .before in
     let explaining = calling .before .before .before .before .before .before .before in
-    let s = explaining .before .before .before .before .before .before .before .before .before .before in
+    let s = explaining .before .before .before .before .before .before .before .before .before .before .before in
     cycle-left (chart s) (run s) (s .args .new) (s .args .inputs) _ _ (now (s .args .outputs)) _ _ refl
     (keeping .keep-if .ensures ∙ ap (keptIf (calling .cycles-on .result .code)) (explaining .explain .ensures)) (calling .cycles-on .ensures) (c .put-words .ensures)
 

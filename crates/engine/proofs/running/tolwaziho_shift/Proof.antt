@@ -2,9 +2,8 @@
 use denote.Ref.{now}
 use Rattle.chart.specs.Chart.{chartOf}
 use Rattle.chart.specs.declared.chart.Chart.{Chart}
-use Rattle.run.specs.Apart.{runOf}
+use Rattle.run.specs.Apart.{runOf, wordsAt}
 use Rattle.run.specs.declared.run.Run.{Run}
-use Rattle.desk.specs.Lent.{wordsAt}
 use mathlib.Core.Path.{sym}
 use lib.Seq.{length-take-le}
 use Rattle.shift.proofs.shifting.Laws.{all-taken, code-told}
@@ -21,7 +20,7 @@ chart s =
 abbrev run : tie.Start → Run
 run s =
     let a = s .args in
-    runOf (wordsAt (now (a .clock)) (now (a .active)) (now (a .activity)) (now (a .stored)) (now (a .latched)) (now (a .good)) (now (a .bad))) (now (a .counters)) (now (a .timers))
+    runOf (wordsAt (now (a .clock)) (now (a .active)) (now (a .activity)) (now (a .stored)) (now (a .latched)) (now (a .good)) (now (a .bad)) (now (a .hold))) (now (a .counters)) (now (a .timers))
 
 lists-code-requires : tie.Need-lists-code-requires
 lists-code-requires c κs = search needs
@@ -50,10 +49,10 @@ same-length-2 c = search needs
 returns : tie.Need-returns
 returns c =
     let put = c .before in
-    let calling = put .before .before .before .before .before .before .before .before .before .before .before in
+    let calling = put .before .before .before .before .before .before .before .before .before .before .before .before in
     let taken = calling .before .before .before .before .before .before in
     let listed = taken .before in
-    let s = listed .before .before .before .before .before .before .before .before .before .before .before in
+    let s = listed .before .before .before .before .before .before .before .before .before .before .before .before in
     let a = s .args in
     shift-left (chart s) (run s) (now (a .clocks)) (now (a .inputs)) (now (a .activities)) (now (a .outputs)) _ _ _
     (all-taken (chart s) (run s) (now (a .clocks)) (now (a .inputs)) (now (a .activities)) (now (a .outputs)) (run s) _ _ _ (listed .lists-code .ensures) (taken .clocks-taken .ensures .0) (calling .cycles-on .ensures))

@@ -24,7 +24,7 @@ same-length c = search needs
 returns : tie.Need-returns
 returns c =
     let put = c .before .before in
-    let starting = put .before .before .before .before .before .before .before .before .before in
+    let starting = put .before .before .before .before .before .before .before .before .before .before in
     let s = starting .before .before in
     start-left (chart s) (s .args .new) (now (s .args .outputs)) _ (starting .start-on .result) _ (starting .start-on .ensures) (put .put-words .ensures)
 

@@ -1,8 +1,9 @@
--- The choice after the transitions passed.
+-- Under hold none; else the choice after the transitions passed.
 use Prim.Native.Nat.{_≤_, _-_}
 use mathlib.Core.Path.{_≡_}
 use native.Mathlib.Omega.{arith}
 use borrow.Author.Needs.{needs}
+use borrow.Author.Tests.{eq-eqb, ne-eqb}
 use Rattle.sets.specs.Loops.{turns}
 use Rattle.sets.proofs.Loops.{turns-start, turns-more, turns-end}
 use Rattle.choice.specs.Choice.{choosingAt, noneTaken, chosen}
@@ -10,10 +11,13 @@ use Rattle.passes.proofs.choosing.choose.Statement.{statement}
 use Rattle.passes.proofs.choosing.choose.Tie as tie
 
 abbrev Inv-loop : tie.InvT-loop
-Inv-loop n sources targets on off wait counts active signals choice₀ last t₀ choice t = (choice ≡ turns (choosingAt sources targets on off wait counts active signals) noneTaken t) × (t ≤ last)
+Inv-loop hold n sources targets on off wait counts active signals choice₀ last t₀ choice t = (choice ≡ turns (choosingAt sources targets on off wait counts active signals) noneTaken t) × (t ≤ last)
 
 abbrev μ-loop : tie.MeasureT-loop
-μ-loop n sources targets on off wait counts active signals choice₀ last t₀ choice t = last - t
+μ-loop hold n sources targets on off wait counts active signals choice₀ last t₀ choice t = last - t
+
+returns : tie.Need-returns Inv-loop μ-loop
+returns c = rw (eq-eqb _ 1 (c .if1 .taken))
 
 at-most-requires : tie.Need-at-most-requires Inv-loop μ-loop
 at-most-requires c κs = search needs
@@ -63,9 +67,11 @@ loop-less c = omega arith
 loop-again : tie.Need-loop-again Inv-loop μ-loop
 loop-again c = (turns-more _ _ _ _ _ (c .before .before .before .before .before .before .before .loop .inv .0) (c .choose-one .ensures), omega arith)
 
-returns : tie.Need-returns Inv-loop μ-loop
+returns-2 : tie.Need-returns-2 Inv-loop μ-loop
 unfolding chosen
-returns c = turns-end _ _ _ (c .before .loop .t) _ (c .before .loop .inv .0) (omega arith) (omega arith)
+returns-2 c =
+    let l = c .before in
+    rw (ne-eqb _ 1 (l .before .before .if1 .left)) (turns-end _ _ _ (l .loop .t) _ (l .loop .inv .0) (omega arith) (omega arith))
 
 pub choose-spec : {M : Type 1} → statement M
 choose-spec =
@@ -73,6 +79,7 @@ choose-spec =
     (tie.spec
     Inv-loop
     μ-loop
+    returns
     at-most-requires
     loop-holds
     mul-choose-one
@@ -89,4 +96,4 @@ choose-spec =
     add-t
     loop-less
     loop-again
-    returns)
+    returns-2)

@@ -23,7 +23,7 @@ long c =
     put-kept (now (s .args .line)) (s .args .at) (take (c .loop .t) (reasonDigits (s .args .n) (now (s .args .reasons)))) (c .loop .inv .0) (omega arith)
 
 -- each reason is one digit
-one-digit : (c : tie.After-digit-arg Inv-loop μ-loop) → getD (now (c .before .before .before .before .args .reasons)) (c .before .before .loop .t) 0 ≤ 6
+one-digit : (c : tie.After-digit-arg Inv-loop μ-loop) → getD (now (c .before .before .before .before .args .reasons)) (c .before .before .loop .t) 0 ≤ 7
 one-digit c = c .before .before .before .before .pre .2 _ (omega arith)
 
 loop-holds : tie.Need-loop-holds Inv-loop μ-loop

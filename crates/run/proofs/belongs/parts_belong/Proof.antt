@@ -19,13 +19,14 @@ counts-fit-requires-2 c κs = let short : length (now (c .before .before .before
 
 returns : tie.Need-returns
 returns c =
-    let a = c .before .before .before .before .before .before .args in
+    let timed = c .before in
+    let a = timed .before .before .before .before .before .before .args in
     let long : length (now (a .counts)) ≡ 64 = search needs in
     let short : length (now (a .times)) ≡ 32 = search needs in (
       rw (
-        c .counts-fit2 .ensures ∙ times-fit (now (a .times)) (a .words .latched) short,
-        c .before .before .before .counts-fit .ensures ∙ counts-fit (now (a .counts)) (a .words .active) long,
-        c .before .before .before .before .before .names-fit .ensures,
+        timed .counts-fit2 .ensures ∙ times-fit (now (a .times)) (a .words .latched) short,
+        timed .before .before .before .counts-fit .ensures ∙ counts-fit (now (a .counts)) (a .words .active) long,
+        timed .before .before .before .before .before .names-fit .ensures,
       ),
       long,
       short,
