@@ -22,6 +22,7 @@ fn as_expected(signal: usize, expected: u8, signals: u64) -> bool
     sets::is_in_mod(signals, signal) == (expected == 1)
 }
 
+// Where nothing was left, as in most cycles and in all under hold, no case is looked at.
 pub fn marks_of<'a>(
     n: usize,
     step: &'a [u8; 64],
@@ -32,6 +33,9 @@ pub fn marks_of<'a>(
 ) -> Marks
     ensures { λ r. ⌜ r ≡ marksOf (min n 64) (rests 64 (now (step .entry))) (rests 64 (now (signal .entry))) (now (expected .entry)) left signals ⌝ }
 {
+    if left == 0 {
+        return Marks { good: 0, bad: 0 };
+    }
     let mut good = 0u64;
     let mut bad = 0u64;
     let last = chart::at_most(n, 64);

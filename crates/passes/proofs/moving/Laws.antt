@@ -1,5 +1,5 @@
 -- The signals of a cycle by members, and the marks of its cases.
-use Prim.Native.Nat.{ℕ, _+_, _-_, _*_, _%_, _^_, _<_}
+use Prim.Native.Nat.{ℕ, zero, suc, _+_, _-_, _*_, _%_, _^_, _<_}
 use mathlib.Core.List.{List}
 use mathlib.Core.Bool.{Bool, true, false, _||_, not, cond}
 use mathlib.Core.Path.{_≡_, ap, ap₂, _∙_, refl}
@@ -12,8 +12,8 @@ use lib.Bits.{bitOr, or-lt}
 use borrow.Author.Tests.{ltb-true, ltb-false}
 use Rattle.sets.specs.Sets.{has, collect, insert}
 use Rattle.sets.proofs.Loops.{or-false}
-use Rattle.sets.proofs.Members.{collect-start, collect-turn, by-members, has-or, has-high, has-mod, has-shl-low, has-shl-high}
-use Rattle.passes.specs.Moving.{asExpected, goodAt, badAt, signalsOf}
+use Rattle.sets.proofs.Members.{has-zero, collect-start, collect-turn, by-members, has-or, has-high, has-mod, has-shl-low, has-shl-high}
+use Rattle.passes.specs.Moving.{asExpected, goodAt, badAt, marksOf, signalsOf}
 
 pub or-shl-signals : (inputs activity : ℕ) → inputs < 2 ^ 32 → bitOr inputs (activity * 2 ^ 32 % 2 ^ 64) ≡ signalsOf inputs activity
 or-shl-signals i a hi =
@@ -24,6 +24,20 @@ or-shl-signals i a hi =
     one k true e = ap (λ (x : Bool). has i k || x) (has-shl-low a 32 k (ltb-true k 32 e)) ∙ or-false (has i k)
     one k false e =
         ap₂ _||_ (has-high 32 i k hi (ltb-false k 32 e)) (has-shl-high a 32 k (ltb-false k 32 e))
+
+-- where nothing was left no case is marked
+none-collected : (p : ℕ → Bool) (n : ℕ) → ((k : ℕ) → p k ≡ false) → 0 ≡ collect p n
+unfolding collect
+none-collected p zero h = refl
+none-collected p (suc n) h = rw (h n, ← none-collected p n h)
+
+pub none-left : (n : ℕ) (step signal expected : List ℕ) (left signals : ℕ) → left ≡ 0 → record { good = 0; bad = 0 } ≡ marksOf n step signal expected left signals
+unfolding marksOf
+none-left n step signal expected left signals e =
+    rw e
+    (ap₂ (λ (x y : ℕ). record { good = x; bad = y })
+    (none-collected (λ i. goodAt (getD step i 0) (getD signal i 0) (getD expected i 0) 0 signals) n (λ k. rw (has-zero (getD step k 0))))
+    (none-collected (λ i. badAt (getD step i 0) (getD signal i 0) (getD expected i 0) 0 signals) n (λ k. rw (has-zero (getD step k 0)))))
 
 module _ (step signal expected : List ℕ) (left signals : ℕ) where
   -- g and b are the marks of the first i cases

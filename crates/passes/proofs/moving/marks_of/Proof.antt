@@ -1,4 +1,4 @@
--- The cases passed that are good, and that are bad.
+-- Where nothing was left none is marked; else the cases passed that are good, and that are bad.
 use Prim.Native.Nat.{ℕ, _≤_, _-_}
 use mathlib.Core.Path.{ap₂, _∙_}
 use mathlib.Core.Logic.{⊎-elim}
@@ -9,7 +9,7 @@ use native.Mathlib.Nat.{le-antisymm}
 use Rattle.passes.specs.Rests.{rests}
 use Rattle.passes.specs.Moving.{marksOf}
 use Rattle.passes.proofs.rests.Laws.{rest-read}
-use Rattle.passes.proofs.moving.Laws.{Marked, none-marked, one-marked, one-passed}
+use Rattle.passes.proofs.moving.Laws.{none-left, Marked, none-marked, one-marked, one-passed}
 use Rattle.passes.proofs.moving.marks_of.Statement.{statement}
 use Rattle.passes.proofs.moving.marks_of.Tie as tie
 
@@ -18,6 +18,9 @@ Inv-loop n step signal expected left signals good₀ bad₀ last i₀ good bad i
 
 abbrev μ-loop : tie.MeasureT-loop
 μ-loop n step signal expected left signals good₀ bad₀ last i₀ good bad i = last - i
+
+returns : tie.Need-returns Inv-loop μ-loop
+returns c = none-left _ _ _ _ _ _ (c .if1 .taken)
 
 at-most-requires : tie.Need-at-most-requires Inv-loop μ-loop
 at-most-requires c κs = search needs
@@ -61,18 +64,18 @@ loop-less c = omega arith
 loop-again : tie.Need-loop-again Inv-loop μ-loop
 loop-again c =
     let l = c .before .before .before .before .before in
-    let s = l .before .before in
+    let s = l .before .before .before in
     let e = rest-read 64 (now (s .args .step)) (l .loop .i) _ (c .before .before .index-of .ensures .0) in
     let o = c .before .is-in-mod .ensures in (
       ⊎-elim (λ w. one-marked _ _ _ _ _ _ _ _ _ _ _ _ (omega arith) (l .loop .inv .0) e o _ _ (w .0 .taken)
           (rest-read 64 (now (s .args .signal)) (l .loop .i) _ (w .2 .ensures .0)) (w .4 .ensures) (w .7 ∙ w .5 .ensures) (w .8 ∙ w .6 .ensures))
-          (λ w. one-passed _ _ _ _ _ _ _ _ _ _ _ _ (omega arith) (l .loop .inv .0) e o (w .0 .left) (w .1) (w .2)) (c .if1 .came),
+          (λ w. one-passed _ _ _ _ _ _ _ _ _ _ _ _ (omega arith) (l .loop .inv .0) e o (w .0 .left) (w .1) (w .2)) (c .if2 .came),
       omega arith,
     )
 
-returns : tie.Need-returns Inv-loop μ-loop
+returns-2 : tie.Need-returns-2 Inv-loop μ-loop
 unfolding marksOf
-returns c =
+returns-2 c =
     let l = c .before .loop in
     rw (← c .before .before .at-most .ensures, le-antisymm (c .loop-test .left) (l .inv .1))
     (ap₂ (λ (x y : ℕ). record { good = x; bad = y }) (l .inv .0 .goods) (l .inv .0 .bads))
@@ -83,6 +86,7 @@ marks-of-spec =
     (tie.spec
     Inv-loop
     μ-loop
+    returns
     at-most-requires
     loop-holds
     element-copy-out-index-of
@@ -97,4 +101,4 @@ marks-of-spec =
     add-i
     loop-less
     loop-again
-    returns)
+    returns-2)
