@@ -1,4 +1,4 @@
-/* What a rig computer does with the library: it reads a chart file, starts, makes cycles and a shift, and reports.
+/* What a rig computer does with the library: it reads a chart file, starts, makes cycles and a shift, turns the key, and reports.
 
      gcc -o rig rig.c $(pkg-config --cflags --libs tolwaziho) && ./rig chart.bin
 
@@ -30,7 +30,7 @@ static void print_state(void)
 	for (int k = 0; k < TW_OUTPUTS; k++)
 		if (outputs[k] != 0)
 			printf("; output %d is %" PRId32, k, outputs[k]);
-	printf("\n");
+	printf("%s\n", run.hold ? "; held" : "");
 }
 
 static void cycle(uint32_t clock, uint32_t inputs)
@@ -81,6 +81,16 @@ int main(int argc, char **argv)
 		printf(" 0x%" PRIx64, activities[k]);
 	printf("\n");
 	print_state();
+
+	/* somebody is in the cell, and the key is turned: step 1 stays, and of its wait nothing goes by until the key is turned back */
+	cycle(2100, 1);
+	if (accepted("hold", tw_hold(&chart, &run)))
+		print_state();
+	cycle(2700, 2);
+	if (accepted("release", tw_release(&chart, &run)))
+		print_state();
+	cycle(3199, 2);
+	cycle(3200, 2);
 
 	struct tw_tallied tallied;
 	if (accepted("tally", tw_tally(&chart, &run, &tallied)))

@@ -95,19 +95,19 @@ const TURN: i64 = 1 << 32;
 enum Field {
     Steps, Actions, Transitions, Blocks, Cases, Initial, Output, Value, Sources, Targets, On, Off, Wait,
     BlockStep, BlockAction, Qualifier, Duration, CaseStep, Signal, Expected,
-    Clock, Active, Activity, Stored, Latched, Counters, Timers, Good, Bad,
+    Clock, Active, Activity, Stored, Latched, Counters, Timers, Good, Bad, Hold,
 }
 
 // Of each field the bytes that a number takes, and how many numbers there are.
 #[rustfmt::skip]
-const LAYOUT: [(Field, usize, usize); 29] = [
+const LAYOUT: [(Field, usize, usize); 30] = [
     (Steps, 8, 1), (Actions, 8, 1), (Transitions, 8, 1), (Blocks, 8, 1), (Cases, 8, 1),
     (Initial, 1, 64), (Output, 1, 32), (Value, 4, 32),
     (Sources, 8, 64), (Targets, 8, 64), (On, 8, 64), (Off, 8, 64), (Wait, 4, 64),
     (BlockStep, 1, 256), (BlockAction, 1, 256), (Qualifier, 1, 256), (Duration, 4, 256),
     (CaseStep, 1, 64), (Signal, 1, 64), (Expected, 1, 64),
     (Clock, 4, 1), (Active, 8, 1), (Activity, 8, 1), (Stored, 8, 1), (Latched, 8, 1),
-    (Counters, 4, 64), (Timers, 4, 32), (Good, 8, 1), (Bad, 8, 1),
+    (Counters, 4, 64), (Timers, 4, 32), (Good, 8, 1), (Bad, 8, 1), (Hold, 1, 1),
 ];
 // the chart's fields end here, and the run's begin
 const RUN: usize = Clock as usize;
@@ -466,8 +466,8 @@ fn faulty_file(rng: &Rng, mut chart: Chart) -> Vec<u8> {
 struct Held(Vec<u64>);
 
 // Where each field begins in it, and where the last one ends.
-const PLACES: [usize; 30] = {
-    let (mut places, mut k) = ([0; 30], 0);
+const PLACES: [usize; 31] = {
+    let (mut places, mut k) = ([0; 31], 0);
     while k < LAYOUT.len() {
         places[k + 1] = places[k] + LAYOUT[k].2;
         k += 1;
@@ -513,6 +513,15 @@ impl Held {
         held
     }
 
+    // Whether they have the same chart, and the same run but for the hold mark, which is the last field.
+    fn equals_but_mark(&self, other: &Held) -> bool {
+        self.0[..PLACES[Hold as usize]] == other.0[..PLACES[Hold as usize]]
+    }
+
+    fn is_held(&self) -> bool {
+        self[Hold][0] == 1
+    }
+
     fn count(&self, field: Field) -> usize {
         self[field][0] as usize
     }
@@ -538,8 +547,20 @@ fn nearly_reached(rng: &Rng, mut own: Vec<u64>, elapsed: i64) -> u64 {
     (rng.pick(&own) as i64 - elapsed + rng.between(-1, 1)).clamp(0, DAY) as u64
 }
 
-// A run of the chart; mostly one in which the wanted transition has its sources active and its targets not.
+// A hold mark: 0 or 1, or now and then none of them.
+fn some_mark(rng: &Rng) -> u64 {
+    match rng.below(20) {
+        0..=11 => 0,
+        12..=18 => 1,
+        _ => rng.pick(&[2, 3, 128, 254, 255, rng.any() % 256]),
+    }
+}
+
+// A run of the chart, but now and then for its mark; mostly one in which the wanted transition has its sources active and its targets not.
 fn put_run(rng: &Rng, held: &mut Held, chart: &Chart, elapsed: i64, wanted: Option<Record>) {
+    held[Hold][0] = some_mark(rng);
+    // the counters of a held run stand still: some are at their time, and some would be if they did not
+    let growth = if held.is_held() && rng.chance(50) { 0 } else { elapsed };
     for (field, kind) in [(Active, STEP), (Activity, ACTION), (Stored, ACTION), (Latched, ACTION), (Good, CASE), (Bad, CASE)] {
         held[field][0] = chosen(rng, numbers(chart[kind].len()), 64);
     }
@@ -549,7 +570,7 @@ fn put_run(rng: &Rng, held: &mut Held, chart: &Chart, elapsed: i64, wanted: Opti
     for k in members(held[Active][0]) {
         let waits = chart[TRANSITION].iter().filter(|transition| has(transition[0], k as u64)).map(|transition| transition[4]);
         let counted = chart[BLOCK].iter().filter(|block| block[0] == k as u64 && [L, D, DS].contains(&block[2]));
-        held[Counters][k] = nearly_reached(rng, waits.chain(counted.map(|block| block[3])).collect(), elapsed);
+        held[Counters][k] = nearly_reached(rng, waits.chain(counted.map(|block| block[3])).collect(), growth);
     }
     for k in members(held[Latched][0]) {
         let latching = chart[BLOCK].iter().filter(|block| block[1] == k as u64 && [SD, SL].contains(&block[2]));
@@ -583,7 +604,7 @@ fn limit_of(held: &Held, field: Field) -> Limit {
         Steps | Transitions | Cases => Limit::Most(64),
         Actions => Limit::Most(32),
         Blocks => Limit::Most(256),
-        Initial | Expected => Limit::Most(1),
+        Initial | Expected | Hold => Limit::Most(1),
         Output => Limit::Most(31),
         Wait | Duration | Counters | Timers => Limit::Most(DAY as u64),
         BlockStep | CaseStep => Limit::Most(steps - 1),
@@ -679,6 +700,10 @@ const TALLY: u64 = 2;
 const WEIGHING: u64 = 3;
 const WRITING: u64 = 4;
 const SHIFT: u64 = 5;
+const HOLD: u64 = 6;
+const RELEASE: u64 = 7;
+// each by its name
+const CALLS: [&str; 8] = ["start", "cycle", "tally", "weighing", "writing", "shift", "hold", "release"];
 
 // A call on what is held, without the lists that may follow.
 fn request(held: &Held, kind: u64, clock: u64, inputs: u64, lent: u64, weights: usize) -> Vec<u8> {
@@ -708,13 +733,14 @@ fn back_case(rng: &Rng, _: u64) -> Case {
     Case { request: file, count: Box::new(count) }
 }
 
-// A call on a held chart and run, and the field that was put at its limit or above it.
+// A call on a held chart and run, the field that was put at its limit or above it, and whether the run is one of the chart but for its mark.
 struct Call {
     held: Held,
     kind: u64,
     clock: u64,
     inputs: u64,
     limit: Option<(Field, bool)>,
+    fits: bool,
 }
 
 // Any transition, or often one with several sources and a wait.
@@ -745,15 +771,17 @@ fn held_case(rng: &Rng, _: u64) -> Case {
     let elapsed = rng.pick(&[0, 1, MINUTE, rng.between(0, 50), rng.between(0, 2000), rng.between(0, MINUTE)]);
     let mut held = Held::of(&file_of(&chart));
     put_run(rng, &mut held, &chart, elapsed, wanted);
+    let made = held.clone();
     let gap = if rng.chance(88) { elapsed } else { refused_gap(rng) };
     let (clock, inputs) = (reading(held[Clock][0] as i64 + gap), inputs_for(rng, &chart, wanted));
-    let kind = rng.pick(&[START, CYCLE, CYCLE, CYCLE, TALLY, WEIGHING]);
+    let kind = rng.pick(&[START, CYCLE, CYCLE, CYCLE, CYCLE, CYCLE, TALLY, WEIGHING, HOLD, RELEASE]);
     let limit = alter(rng, &mut held);
+    let fits = held.equals_but_mark(&made);
     let lent = if rng.chance(60) { 32 } else { rng.pick(&[0, 31, 33, 64, 255, rng.any() % 256]) };
     let weights = if kind == WEIGHING { random_weights(rng, &chart) } else { Vec::new() };
     let mut bytes = request(&held, kind, clock, inputs, lent, weights.len());
     weights.iter().for_each(|weight| put(&mut bytes, *weight, 2));
-    let call = Call { held, kind, clock, inputs, limit };
+    let call = Call { held, kind, clock, inputs, limit, fits };
     Case { request: bytes, count: Box::new(move |reached, line| count_held(reached, &call, line)) }
 }
 
@@ -792,6 +820,7 @@ fn shift_case(rng: &Rng, number: u64) -> Case {
     let chart = random_chart(rng);
     let mut held = Held::of(&file_of(&chart));
     put_run(rng, &mut held, &chart, 0, some_transition(rng, &chart));
+    let made = held.clone();
     let few = rng.pick(&[0, 1, 2, rng.between(3, 12) as usize, rng.between(13, 60) as usize]);
     let (many, right) = [(4096, true), (4097, true), (4096, true)].get(number as usize % 2000).copied().unwrap_or((few, false));
     let clocks = shift_clocks(rng, held[Clock][0], many, &due_times(&chart));
@@ -799,13 +828,22 @@ fn shift_case(rng: &Rng, number: u64) -> Case {
         let (from, to) = rng.pick(&[(0, RUN), (RUN, LAYOUT.len())]);
         alter_held(rng, &mut held, from..to);
     }
+    if right {
+        held[Hold][0] = number / 2 % 2; // of the two that are as long as may be, the second is held
+    }
+    let fits = held.equals_but_mark(&made);
     let uneven = || if right || rng.chance(90) { many } else { rng.pick(&[many + 1, many.max(1) - 1]) };
     let (inputs, words) = (uneven(), uneven());
     let lent = if right || rng.chance(80) { 32 } else { rng.pick(&[31, 0, 33, 255]) };
     let mut bytes = request(&held, SHIFT, (many | inputs << 16) as u64, words as u64, lent, 0);
     clocks.iter().for_each(|clock| put(&mut bytes, *clock, 4));
     (0..inputs).for_each(|_| put(&mut bytes, inputs_for(rng, &chart, None), 4));
-    Case { request: bytes, count: Box::new(move |reached, line| count_shift(reached, many as u64, line)) }
+    let (mark, length) = (held[Hold][0], many as u64);
+    let count = move |reached: &mut Reached, line: &str| {
+        count_shift(reached, length, line);
+        count_held_shift(reached, length, mark, fits, line);
+    };
+    Case { request: bytes, count: Box::new(count) }
 }
 
 // A chart file, or none, and a trace.
@@ -888,8 +926,35 @@ fn needed() -> Vec<String> {
     }
     names.extend([1, 3, 4, 5].map(|reason| format!("printed reason {reason}")));
     names.extend(NEEDED.iter().map(|name| name.to_string()));
+    names.extend(needed_of_hold());
     names
 }
+
+// Under hold none is taken, so no source is used and no target claimed; and no edge makes P, P1 or P0 active.
+fn needed_of_hold() -> Vec<String> {
+    let mut names: Vec<String> = [1, 3, 4, 5].iter().map(|reason| format!("reason 7 before {reason}")).collect();
+    names.extend(["cycle", "tally", "shift", "hold", "release"].map(|call| format!("{call} refused by the mark alone")));
+    for q in [N, S, L, D, SD, DS, SL] {
+        names.extend(["active", "not active"].map(|so| format!("{} {so} under hold", NAMES[q as usize])));
+    }
+    for q in TIMED {
+        names.extend(["at its duration", "one ms before"].map(|time| format!("{} {time} under hold", NAMES[q as usize])));
+    }
+    names.extend(NEEDED_OF_HOLD.iter().map(|name| name.to_string()));
+    names
+}
+
+#[rustfmt::skip]
+const NEEDED_OF_HOLD: [&str; 29] = [
+    "reason 7 alone", "cycle accepted under hold", "cycle refused 11 under hold", "tally accepted under hold",
+    "hold accepted without hold", "hold accepted under hold", "hold refused by the chart",
+    "release accepted without hold", "release accepted under hold", "release refused by the chart",
+    "shift accepted under hold", "shift of 4096 under hold", "shift refused in its middle under hold",
+    "S sets under hold", "DS sets under hold", "SD latches under hold", "SL latches under hold", "R resets under hold", "R elsewhere under hold",
+    "L kept from its duration", "D kept from its duration", "DS kept from its duration", "SD past its duration", "SL past its duration",
+    "P not active where it would be", "P1 not active where it would be", "P0 not active where it would be", "case not marked where it would be",
+    "clock turned under hold",
+];
 
 #[rustfmt::skip]
 const NEEDED: [&str; 32] = [
@@ -922,17 +987,21 @@ fn count_moves(reached: &mut Reached, held: &Held, taken: u64) {
 // The active steps, and the active actions.
 type Standing = (u64, u64);
 
-// By actions with one block alone, whose activity that block decides; of R, by an active action that is so no more.
-fn count_actions(reached: &mut Reached, held: &Held, before: Standing, after: Standing) {
+// Of each block, whether its action has no other.
+fn are_alone(held: &Held) -> Vec<bool> {
     let actions = &held[BlockAction][..held.count(Blocks)];
     let mut blocks_of = [0; 256];
     actions.iter().for_each(|action| blocks_of[*action as usize] += 1);
-    for (k, action) in actions.iter().enumerate() {
-        let (step, q, active) = (held[BlockStep][k], held[Qualifier][k], has(after.1, *action));
-        let (here, left) = (has(after.0, step), has(before.0, step) && !has(after.0, step));
-        let alone = blocks_of[*action as usize] == 1;
+    actions.iter().map(|action| blocks_of[*action as usize] == 1).collect()
+}
+
+// By actions with one block alone, whose activity that block decides; of R, by an active action that is so no more.
+fn count_actions(reached: &mut Reached, held: &Held, before: Standing, after: Standing) {
+    for (k, alone) in are_alone(held).into_iter().enumerate() {
+        let (step, action, q) = (held[BlockStep][k], held[BlockAction][k], held[Qualifier][k]);
+        let (here, left, active) = (has(after.0, step), has(before.0, step) && !has(after.0, step), has(after.1, action));
         if q == R {
-            reached.note("R resets", here && has(before.1, *action) && !active);
+            reached.note("R resets", here && has(before.1, action) && !active);
         } else if alone && (here && q != P0 || left && q == P0) {
             reached.add(&format!("{} {}", NAMES[q as usize], if active { "active" } else { "not active" }), 1);
         } else if alone && left && q == P {
@@ -952,28 +1021,41 @@ fn count_clock(reached: &mut Reached, last: u64, clock: u64) {
 
 // Of blocks on active steps: a counter or timer at the duration, or one below.
 fn count_durations(reached: &mut Reached, held: &Held, active: u64, counters: &[u64], timers: &[u64]) {
+    let under = if held.is_held() { " under hold" } else { "" };
     for k in (0..held.count(Blocks)).filter(|k| has(active, held[BlockStep][*k])) {
         let (q, duration) = (held[Qualifier][k], held[Duration][k]);
         let counter = counters[held[BlockStep][k] as usize];
         let time = if [SD, SL].contains(&q) { timers[held[BlockAction][k] as usize] } else { counter };
         if TIMED.contains(&q) && duration > 0 && (time == duration || time == duration - 1) {
-            reached.add(&format!("{} {}", NAMES[q as usize], if time == duration { "at its duration" } else { "one ms before" }), 1);
+            reached.add(&format!("{} {}{under}", NAMES[q as usize], if time == duration { "at its duration" } else { "one ms before" }), 1);
         }
     }
 }
 
-// What speaks against transition k, each reason of request (vi) by itself, whatever comes before it.
+fn elapsed(call: &Call) -> u64 {
+    reading(call.clock as i64 - call.held[Clock][0] as i64)
+}
+
+// What the counters of active steps grow by.
+fn growth(call: &Call) -> u64 {
+    if call.held.is_held() {
+        0
+    } else {
+        elapsed(call)
+    }
+}
+
+// What speaks against transition k, each reason of request (vi) by itself, whatever comes before it; the key, which comes first, left out.
 fn against(call: &Call, taken: u64, k: usize) -> [bool; 6] {
     let (held, active) = (&call.held, call.held[Active][0]);
     let before = |field: Field| members(taken & numbers(k)).iter().fold(0, |set, earlier| set | held[field][*earlier]);
     let signals = call.inputs | held[Activity][0] << 32;
-    let elapsed = reading(call.clock as i64 - held[Clock][0] as i64);
-    let (sources, targets) = (held[Sources][k], held[Targets][k]);
+    let (growth, sources, targets) = (growth(call), held[Sources][k], held[Targets][k]);
     [
         sources & !active != 0,
         sources & before(Sources) != 0,
         held[On][k] & !signals | held[Off][k] & signals != 0,
-        members(sources & active).iter().any(|step| held[Counters][*step] + elapsed < held[Wait][k]),
+        members(sources & active).iter().any(|step| held[Counters][*step] + growth < held[Wait][k]),
         targets & active != 0,
         targets & before(Targets) != 0,
     ]
@@ -985,12 +1067,12 @@ fn is_kept(call: &Call, taken: u64, k: usize) -> bool {
     used || signal || occupied || claimed
 }
 
-// Of an accepted cycle: each reason where nothing else speaks against the transition, and where a later one does too.
+// Of an accepted cycle: each reason where nothing else speaks against the transition, and where a later one does too; 7 is the first in their order.
 fn count_reasons(reached: &mut Reached, call: &Call, taken: u64, line: &str) {
     let reasons = line.split(' ').rev().take(64).collect::<Vec<&str>>().into_iter().rev();
     for (k, word) in reasons.enumerate().filter(|(_, word)| *word != "0") {
         let later = against(call, taken, k).into_iter().zip(1..).filter(|(so, _)| *so).map(|(_, reason)| reason.to_string());
-        let later: Vec<String> = later.filter(|reason| reason.as_str() > word).collect();
+        let later: Vec<String> = later.filter(|reason| word == "7" || reason.as_str() > word).collect();
         reached.note(&format!("reason {word} alone"), later.is_empty());
         later.iter().for_each(|reason| reached.add(&format!("reason {word} before {reason}"), 1));
     }
@@ -1000,8 +1082,7 @@ fn count_reasons(reached: &mut Reached, call: &Call, taken: u64, line: &str) {
 // and below it only one of a step that is no source.
 fn count_waits(reached: &mut Reached, call: &Call, taken: u64) {
     let (held, active) = (&call.held, call.held[Active][0]);
-    let elapsed = reading(call.clock as i64 - held[Clock][0] as i64);
-    let counts = |set: u64| members(set).iter().map(|step| held[Counters][*step] + elapsed).collect::<Vec<u64>>();
+    let counts = |set: u64| members(set).iter().map(|step| held[Counters][*step] + growth(call)).collect::<Vec<u64>>();
     for k in (0..held.count(Transitions)).filter(|k| held[Wait][*k] > 0 && held[Sources][*k] & !active == 0) {
         let (wait, is_taken, of_sources) = (held[Wait][k], has(taken, k as u64), counts(held[Sources][k]));
         let least = of_sources.iter().copied().min().unwrap_or_default();
@@ -1012,15 +1093,96 @@ fn count_waits(reached: &mut Reached, call: &Call, taken: u64) {
     }
 }
 
-// An accepted start or cycle.
+// An accepted start, or an accepted cycle that is not under hold.
 fn count_call(reached: &mut Reached, call: &Call, line: &str) {
-    let numbers = answered(line, 105);
+    let numbers = answered(line, 106);
     let (held, taken, after) = (&call.held, numbers[1], (numbers[3], numbers[4]));
     reached.add("accepted calls", 1);
     count_moves(reached, held, taken);
     count_actions(reached, held, (held[Active][0], held[Activity][0]), after);
-    count_durations(reached, held, after.0, &numbers[9..73], &numbers[73..105]);
+    count_durations(reached, held, after.0, &numbers[10..74], &numbers[74..106]);
     count_waits(reached, call, taken);
+}
+
+// An accepted cycle under hold: what goes on, and what the key keeps from happening.
+fn count_held_cycle(reached: &mut Reached, call: &Call, line: &str) {
+    let numbers = answered(line, 106);
+    let after = After { activity: numbers[4], stored: numbers[5], latched: numbers[6], marked: numbers[7] | numbers[8] };
+    count_durations(reached, &call.held, call.held[Active][0], &numbers[10..74], &numbers[74..106]);
+    count_held_actions(reached, &call.held, &after);
+    count_held_resets(reached, &call.held, &after);
+    count_held_times(reached, call);
+    count_held_moves(reached, call, &after);
+}
+
+// What a cycle left in a run: sets of actions, and the cases that have a mark.
+struct After {
+    activity: u64,
+    stored: u64,
+    latched: u64,
+    marked: u64,
+}
+
+// The blocks that decide their action's activity: it has no other, and was not stored.
+fn deciding_blocks(held: &Held) -> Vec<usize> {
+    let alone = are_alone(held);
+    (0..alone.len()).filter(|k| alone[*k] && !has(held[Stored][0], held[BlockAction][*k])).collect()
+}
+
+// By blocks on active steps, and N and S elsewhere too, where they are not active. What is set or latched was not so before.
+fn count_held_actions(reached: &mut Reached, held: &Held, after: &After) {
+    for k in deciding_blocks(held) {
+        let (action, q, here) = (held[BlockAction][k], held[Qualifier][k], has(held[Active][0], held[BlockStep][k]));
+        if ![R, P, P1, P0].contains(&q) && (here || q == N || q == S) {
+            let so = if has(after.activity, action) { "active" } else { "not active" };
+            reached.add(&format!("{} {so} under hold", NAMES[q as usize]), 1);
+        }
+        if here && (q == S || q == DS) {
+            reached.note(&format!("{} sets under hold", NAMES[q as usize]), has(after.stored, action));
+        }
+        if here && (q == SD || q == SL) && !has(held[Latched][0], action) {
+            reached.note(&format!("{} latches under hold", NAMES[q as usize]), has(after.latched, action));
+        }
+    }
+}
+
+// Of stored actions: R on an active step resets them, and R elsewhere does not.
+fn count_held_resets(reached: &mut Reached, held: &Held, after: &After) {
+    for k in (0..held.count(Blocks)).filter(|k| held[Qualifier][*k] == R && has(held[Stored][0], held[BlockAction][*k])) {
+        let (here, stored) = (has(held[Active][0], held[BlockStep][k]), has(after.stored, held[BlockAction][k]));
+        reached.note("R resets under hold", here && !stored);
+        reached.note("R elsewhere under hold", !here && stored);
+    }
+}
+
+// Of blocks on active steps: a duration that the counter would reach if it did not stand, or that the timer reaches.
+fn count_held_times(reached: &mut Reached, call: &Call) {
+    let held = &call.held;
+    for k in (0..held.count(Blocks)).filter(|k| has(held[Active][0], held[BlockStep][*k])) {
+        let (q, duration, name) = (held[Qualifier][k], held[Duration][k], NAMES[held[Qualifier][k] as usize]);
+        let between = |time: u64| time < duration && duration <= time + elapsed(call);
+        if [L, D, DS].contains(&q) {
+            reached.note(&format!("{name} kept from its duration"), between(held[Counters][held[BlockStep][k] as usize]));
+        } else if [SD, SL].contains(&q) && has(held[Latched][0], held[BlockAction][k]) {
+            reached.note(&format!("{name} past its duration"), between(held[Timers][held[BlockAction][k] as usize]));
+        }
+    }
+}
+
+// Of the first transition that nothing but the key keeps: pulses on the steps that it would enter or leave, and cases on those it would leave.
+fn count_held_moves(reached: &mut Reached, call: &Call, after: &After) {
+    let held = &call.held;
+    let Some(kept) = (0..held.count(Transitions)).find(|k| against(call, 0, *k) == [false; 6]) else { return };
+    let (left, entered) = (held[Sources][kept], held[Targets][kept]);
+    for k in deciding_blocks(held) {
+        let (step, q) = (held[BlockStep][k], held[Qualifier][k]);
+        if q == P0 && has(left, step) || (q == P || q == P1) && has(entered, step) {
+            reached.note(&format!("{} not active where it would be", NAMES[q as usize]), !has(after.activity, held[BlockAction][k]));
+        }
+    }
+    for k in (0..held.count(Cases)).filter(|k| has(left, held[CaseStep][*k])) {
+        reached.note("case not marked where it would be", !has(after.marked, k as u64));
+    }
 }
 
 // A field above its limit by the refusal that it gets, one at its limit by a call that reads it and does not refuse it so.
@@ -1031,26 +1193,49 @@ fn count_limit(reached: &mut Reached, kind: u64, field: Field, above: bool, code
         _ if of_run => 12,
         _ => 5,
     };
-    if code != 15 && (!of_run || kind == CYCLE || kind == TALLY) {
+    if code != 15 && (!of_run || [CYCLE, TALLY, HOLD, RELEASE].contains(&kind)) {
         reached.note(&name_of(field, above), (code == refusal) == above);
     }
 }
 
+// What a call makes of its run's mark, and whether that alone can be why the run is none of the chart.
+fn count_mark(reached: &mut Reached, name: &str, mark: u64, fits: bool, code: u64) {
+    reached.note(&format!("{name} refused by the mark alone"), code == 12 && mark > 1 && fits);
+    if code == 0 {
+        reached.add(&format!("{name} accepted {} hold", if mark == 1 { "under" } else { "without" }), 1);
+    }
+}
+
+fn count_cycle(reached: &mut Reached, call: &Call, taken: u64, line: &str) {
+    let last = call.held[Clock][0];
+    count_reasons(reached, call, taken, line);
+    if call.held.is_held() {
+        reached.note("clock turned under hold", call.clock < last);
+        count_held_cycle(reached, call, line);
+    } else {
+        count_clock(reached, last, call.clock);
+        count_call(reached, call, line);
+    }
+}
+
 fn count_held(reached: &mut Reached, call: &Call, line: &str) {
-    let numbers = answered(line, 4);
+    let (numbers, mark) = (answered(line, 4), call.held[Hold][0]);
     let code = numbers[0];
-    reached.answer(code, ["starts", "cycles", "tallies", "weighings"][call.kind as usize]);
-    if let Some((field, above)) = call.limit {
+    let name = CALLS[call.kind as usize];
+    reached.answer(code, &format!("{name} accepted"));
+    // where the mark is none, it refuses the run whatever other field is above its limit
+    if let Some((field, above)) = call.limit.filter(|(field, _)| *field == Hold || mark < 2) {
         count_limit(reached, call.kind, field, above, code);
     }
+    if call.kind != START && call.kind != WEIGHING {
+        count_mark(reached, name, mark, call.fits, code);
+    }
     match call.kind {
+        CYCLE if code == 11 => reached.note("cycle refused 11 under hold", mark == 1),
+        HOLD | RELEASE => reached.note(&format!("{name} refused by the chart"), (4..=9).contains(&code)),
         _ if code > 0 => {}
         START => count_call(reached, &Call { held: call.held.still(), clock: 0, inputs: 0, ..*call }, line),
-        CYCLE => {
-            count_clock(reached, call.held[Clock][0], call.clock);
-            count_call(reached, call, line);
-            count_reasons(reached, call, numbers[1], line);
-        }
+        CYCLE => count_cycle(reached, call, numbers[1], line),
         TALLY => count_tally(reached, &numbers[1..]),
         _ => reached.note("balanced", numbers[2] > 0),
     }
@@ -1080,6 +1265,19 @@ fn count_shift(reached: &mut Reached, length: u64, line: &str) {
     }
     if [0, 1, 4096, 4097].contains(&length) && (code == 18) == (length > 4096) && [0, 11, 18].contains(&code) {
         reached.add(&format!("shift of {length}"), 1);
+    }
+}
+
+// A shift by the mark that it begins with; one of no cycle says nothing of it but whether it is refused.
+fn count_held_shift(reached: &mut Reached, length: u64, mark: u64, fits: bool, line: &str) {
+    let numbers = answered(line, 2);
+    let (code, accepted) = (numbers[0], numbers[1]);
+    if code == 12 || length > 0 {
+        count_mark(reached, "shift", mark, fits, code);
+    }
+    if mark == 1 && [0, 11].contains(&code) {
+        reached.note("shift of 4096 under hold", length == 4096);
+        reached.note("shift refused in its middle under hold", 0 < accepted && accepted + 1 < length);
     }
 }
 

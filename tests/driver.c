@@ -3,13 +3,14 @@
      driver read_charts    a file, read: number, place, counts
      driver write_back     a file, read and written back: the reading's number if refused, else the writing's, the length, whether it is the same
      driver list_records   a single file: each record, the end or the refusal, and the last answer asked for again
-     driver run_cycles     a file, a start and cycles: for each call its whole answer
-     driver lent_cycles    the same by tw_advance: number, taken, active, activity, clock, reasons
+     driver run_cycles     a file, a start, then cycles and turns of the key: for each call its whole answer
+     driver lent_cycles    the same by tw_advance: number, taken, active, activity, clock, hold mark, reasons
      driver held_calls     any chart, any run and a call: its whole answer and all that was lent; tests/held_calls.py has the form
 
    A file stands behind its length in two bytes, but for list_records, whose input is the file. A start is its clock in four bytes and the number of
-   cycles in two, a cycle its clock and its inputs in four each. There are as many cases as the input has; it may end within one, which then
-   is left out. Numbers are little-endian, as on the machines that this runs on. */
+   calls that follow in two; each of them has a byte in front, 0 for a cycle, its clock and its inputs in four each, 1 for a hold and 2 for a
+   release, which have nothing more. There are as many cases as the input has; it may end within one, which then is left out. Numbers are
+   little-endian, as on the machines that this runs on. */
 #include <stdbool.h>
 #include <stdint.h>
 #include <stdio.h>
@@ -207,6 +208,7 @@ static void run_words(void)
 	number(run.latched);
 	number(run.good);
 	number(run.bad);
+	number(run.hold);
 }
 
 /* Those that are not 0, by their transition. */
@@ -244,6 +246,7 @@ static void lent_cycles_line(enum tw_code code, uint64_t taken)
 	number(run.active);
 	number(run.activity);
 	number(run.clock);
+	number(run.hold);
 	some_reasons();
 	end_line();
 }
@@ -251,25 +254,52 @@ static void lent_cycles_line(enum tw_code code, uint64_t taken)
 typedef enum tw_code cycle_call(const struct tw_chart *, struct tw_run *, uint32_t, uint32_t, int32_t *, size_t, uint64_t *, uint8_t *);
 typedef void line_of_call(enum tw_code code, uint64_t taken);
 
+static bool one_cycle(cycle_call *cycle, line_of_call *line)
+{
+	uint32_t clock, inputs;
+	uint64_t taken;
+	if (!take(&clock, sizeof clock) || !take(&inputs, sizeof inputs))
+		return false;
+	memset(reasons, 255, sizeof reasons);
+	enum tw_code code = cycle(&chart, &run, clock, inputs, outputs, TW_OUTPUTS, &taken, reasons);
+	line(code, taken);
+	return true;
+}
+
+/* A start or a turn of the key, which takes no transition and makes no reasons. */
+static void other_call(enum tw_code code, line_of_call *line)
+{
+	memset(reasons, 0, sizeof reasons);
+	line(code, 0);
+}
+
+static bool one_call(cycle_call *cycle, line_of_call *line)
+{
+	enum { CYCLE, HOLD, RELEASE };
+	uint8_t kind;
+	if (!take(&kind, sizeof kind))
+		return false;
+	switch (kind) {
+	case CYCLE: return one_cycle(cycle, line);
+	case HOLD: other_call(tw_hold(&chart, &run), line); return true;
+	case RELEASE: other_call(tw_release(&chart, &run), line); return true;
+	}
+	return false;
+}
+
 static bool one_run(cycle_call *cycle, line_of_call *line)
 {
-	uint16_t size, cycles;
-	uint32_t clock, inputs;
+	uint16_t size, calls;
+	uint32_t clock;
 	size_t place;
-	if (!take_file(&size) || !take(&clock, sizeof clock) || !take(&cycles, sizeof cycles))
+	if (!take_file(&size) || !take(&clock, sizeof clock) || !take(&calls, sizeof calls))
 		return false;
 	tw_read(file, size, &chart, &place);
 	memset(outputs, 0, sizeof outputs);
-	memset(reasons, 0, sizeof reasons);	/* a start makes none */
-	line(tw_start(&chart, &run, clock, outputs, TW_OUTPUTS), 0);
-	for (; cycles > 0; cycles--) {
-		uint64_t taken;
-		if (!take(&clock, sizeof clock) || !take(&inputs, sizeof inputs))
+	other_call(tw_start(&chart, &run, clock, outputs, TW_OUTPUTS), line);
+	for (; calls > 0; calls--)
+		if (!one_call(cycle, line))
 			return false;
-		memset(reasons, 255, sizeof reasons);
-		enum tw_code code = cycle(&chart, &run, clock, inputs, outputs, TW_OUTPUTS, &taken, reasons);
-		line(code, taken);
-	}
 	return true;
 }
 
@@ -292,10 +322,10 @@ static bool take_run(void)
 	return take(&run.clock, sizeof run.clock) && take(&run.active, sizeof run.active) && take(&run.activity, sizeof run.activity)
 		&& take(&run.stored, sizeof run.stored) && take(&run.latched, sizeof run.latched)
 		&& take(run.counters, sizeof run.counters) && take(run.timers, sizeof run.timers)
-		&& take(&run.good, sizeof run.good) && take(&run.bad, sizeof run.bad);
+		&& take(&run.good, sizeof run.good) && take(&run.bad, sizeof run.bad) && take(&run.hold, sizeof run.hold);
 }
 
-/* Of a start or a cycle the transitions taken, of a shift how many cycles were accepted. */
+/* Of a start or a cycle the transitions taken, of a shift how many cycles were accepted; of a turn of the key 0, and no outputs are lent to it. */
 static void held_run(enum tw_code code, uint64_t taken_or_accepted, size_t lent)
 {
 	number(code);
@@ -369,7 +399,7 @@ static size_t list_length(uint32_t n)
 
 static bool held_calls(void)
 {
-	enum { START, CYCLE, TALLY, WEIGHING, WRITING, SHIFT };
+	enum { START, CYCLE, TALLY, WEIGHING, WRITING, SHIFT, HOLD, RELEASE };
 	uint8_t kind, lent, nweights;
 	uint32_t clock, inputs;
 	uint16_t weights[256];
@@ -387,6 +417,8 @@ static bool held_calls(void)
 	case CYCLE: held_cycle(clock, inputs, lent); break;
 	case TALLY: held_tally(); break;
 	case WRITING: held_writing(clock & 0xffff); break;
+	case HOLD: held_run(tw_hold(&chart, &run), 0, 0); break;
+	case RELEASE: held_run(tw_release(&chart, &run), 0, 0); break;
 	default: held_weighing(weights, nweights);
 	}
 	end_line();

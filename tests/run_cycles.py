@@ -4,9 +4,9 @@
   tests/run_cycles.py           write tests/stored/run_cycles.in and run_cycles.out
   tests/run_cycles.py --check   say whether they are what this file says
 
-The lines come from a plain model of document 01's start and cycle, with P as request (ii) of document 02 has it and the reasons of
-its request (vi); nothing here runs the engine. Every case also states facts derived from the documents by hand, and nothing is written unless the model agrees
-with all of them.
+The lines come from a plain model of document 01's start and cycle, with P as request (ii) of document 02 has it, the reasons of
+its request (vi) and the hold key of its request (vii); nothing here runs the engine. Every case also states facts derived from the
+documents by hand, and nothing is written unless the model agrees with all of them.
 Numbers 1 to 6 in the comments are the numbered rules under "One cycle".
 """
 import struct
@@ -68,13 +68,13 @@ def check_valid(chart):
 
 # The model: counters holds the active steps only, timers the latched actions only
 
-Run = namedtuple("Run", "clock active activity stored latched good bad counters timers")
+Run = namedtuple("Run", "clock active activity stored latched good bad hold counters timers")
 Answer = namedtuple("Answer", "code taken run outputs reasons")
 
 
 def start(chart, clock):
     initial = {k for k, s in enumerate(chart.steps) if s.initial}
-    run = Run(clock, initial, set(), set(), set(), set(), set(), {k: 0 for k in initial}, {})
+    run = Run(clock, initial, set(), set(), set(), set(), set(), 0, {k: 0 for k in initial}, {})
     return act(chart, run, set(), entered=initial, left=set(), reasons=[])
 
 
@@ -82,12 +82,23 @@ def cycle(chart, run, lent, clock, inputs):
     elapsed = (clock - run.clock) % 2**32
     if elapsed > 60_000:
         return Answer(11, set(), run, lent, [])
+    if run.hold:
+        return held_cycle(chart, run, clock, elapsed)
     signals = set(inputs) | {32 + k for k in run.activity}
     grown = run._replace(clock=clock, counters=grow(run.counters, elapsed), timers=grow(run.timers, elapsed))
     taken, left, entered, reasons = take(chart, grown, signals)
     assert taken == {t for t, reason in enumerate(reasons) if reason == 0}
     moved = mark(chart, move(grown, left, entered), signals, left)
     return act(chart, moved, taken, entered, left, reasons)
+
+
+def held_cycle(chart, run, clock, elapsed):  # document 02, request (vii): counters stand still, timers run on, nothing is entered or left
+    later = run._replace(clock=clock, timers=grow(run.timers, elapsed))
+    return act(chart, later, set(), entered=set(), left=set(), reasons=[7] * len(chart.transitions))
+
+
+def turn(run, lent, hold):  # request (vii): "one call to set it and one to clear it", on a run of the chart
+    return Answer(0, set(), run._replace(hold=hold), lent, [])
 
 
 def grow(times, elapsed):  # rule 1
@@ -185,7 +196,7 @@ def outputs_of(chart, activity):  # rule 6
 def line(answer):
     run = answer.run
     words = [answer.code, members(answer.taken), run.clock]
-    words += [members(s) for s in (run.active, run.activity, run.stored, run.latched, run.good, run.bad)]
+    words += [members(s) for s in (run.active, run.activity, run.stored, run.latched, run.good, run.bad)] + [run.hold]
     words += ["c"] + [f"{k}:{v}" for k, v in sorted(run.counters.items()) if v]
     words += ["t"] + [f"{k}:{v}" for k, v in sorted(run.timers.items()) if v]
     words += ["o"] + answer.outputs + ["w"] + [f"{t}:{reason}" for t, reason in enumerate(answer.reasons) if reason]
@@ -210,9 +221,10 @@ def compare(name, answers, expect):
                 sys.exit(f"{name}, call {number}, {fact}: by hand {said}, by the model {model[fact]}")
 
 
-# The cases. A call is its milliseconds since the start, and its inputs as a set; the start is call 0.
+# The cases. A call is a cycle, its milliseconds since the start and its inputs as a set, or a turn of the key; the start is call 0.
 
 CASES = []
+HOLD, RELEASE = "hold", "release"
 
 
 def show(name, chart, calls, expect=None, start=5000, **by_call):
@@ -220,7 +232,8 @@ def show(name, chart, calls, expect=None, start=5000, **by_call):
     assert all(len(values) == 1 + len(calls) for values in by_call.values()), name
     columns = {number: dict(zip(by_call, row)) for number, row in enumerate(zip(*by_call.values()))}
     assert bool(expect) != bool(columns), name
-    CASES.append((name, chart, start, [((start + ms) % 2**32, inputs) for ms, inputs in calls], expect or columns))
+    calls = [call if call in (HOLD, RELEASE) else ((start + call[0]) % 2**32, call[1]) for call in calls]
+    CASES.append((name, chart, start, calls, expect or columns))
 
 
 def steps(count, initial=(0,)):
@@ -552,20 +565,136 @@ show("5 before 6", net(4, [0, 1, 3], ([0], [2]), ([1], [2, 3])), [(1, {})], reas
 show("a rival that waits", net(3, [0, 1], ([0], [2], [0]), ([0], [2]), ([1], [2])), [(1, {})], taken=[{}, {1}], reasons=[{}, {0: 3, 2: 6}])
 show("64 reasons", RIVALS, [(1, {}), (2, {1})], reasons=[{}, {k: 3 for k in range(64)}, {k: 3 for k in range(63)}])
 
+# Document 02, request (vii): "In a cycle under hold no transition is taken and step counters stand still, while action timers run on." The key has
+# no clock: a cycle that finds the mark set is under hold with all its elapsed time. First a wait: the 140 ms under hold do not count for it.
+WAIT_100, TOLD_100 = net(2, [0], ([0], [1], (), (), 100)), net(2, [0], ([0], [1], [0], (), 100))
+show("hold in the middle of a wait", WAIT_100, [(60, {}), HOLD, (90, {}), (200, {}), RELEASE, (239, {}), (240, {})],
+     taken=[{}] * 7 + [{0}], hold=[0, 0, 1, 1, 1, 0, 0, 0], clock=[5000, 5060, 5060, 5090, 5200, 5200, 5239, 5240],
+     counters=[{}] + [{0: 60}] * 5 + [{0: 99}, {}], reasons=[{}, {0: 4}, {}, {0: 7}, {0: 7}, {}, {0: 4}, {}])
+show("hold one ms before the wait", TOLD_100, [(99, {0}), HOLD, (5000, {0}), RELEASE, (5000, {0}), (5001, {0})], taken=[{}] * 6 + [{0}],
+     counters=[{}] + [{0: 99}] * 5 + [{}], reasons=[{}, {0: 4}, {}, {0: 7}, {}, {0: 4}, {}])
+show("hold as the wait is over", TOLD_100, [(100, {}), HOLD, (100, {0}), (110, {0}), RELEASE, (110, {0})], taken=[{}] * 6 + [{0}],
+     counters=[{}] + [{0: 100}] * 5 + [{}], reasons=[{}, {0: 3}, {}, {0: 7}, {0: 7}, {}, {}])
+show("hold, two sources with different counters", net(4, [0, 1], ([1], [2], [0]), ([0, 2], [3], [], [], 100)),
+     [(50, {0}), HOLD, (500, {}), RELEASE, (549, {}), (599, {}), (600, {})], taken=[{}, {0}, {}, {}, {}, {}, {}, {1}],
+     counters=[{}] + [{0: 50}] * 4 + [{0: 99, 2: 49}, {0: 149, 2: 99}, {}])
+show("64 counters stand", net(64, range(64)), [(3, {}), HOLD, (9, {}), RELEASE, (10, {})],
+     counters=[{}] + [{k: 3 for k in range(64)}] * 4 + [{k: 4 for k in range(64)}])
+show("32 timers run on", steps(1) + actions(32) + b"".join(block(0, k, SL, 9) for k in range(32)) + END, [(3, {}), HOLD, (8, {}), (9, {})],
+     timers=[{}] + [{k: ms for k in range(32)} for ms in (3, 3, 8, 9)], activity=[ALL] * 4 + [{}])
+# L, D and DS go by the counter that stands: at 50, below the duration, and then at 100. SD and SL go by the timer that runs on.
+for q, before, after in ((L, {0}, {}), (D, {}, {0}), (DS, {}, {0})):
+    show(f"hold in the middle of qualifier {q}", steps(1) + actions(1) + block(0, 0, q, 100) + END,
+         [(50, {}), HOLD, (99, {}), (100, {}), (1000, {}), RELEASE, (1049, {}), (1050, {}), HOLD, (1100, {})],
+         activity=[before] * 8 + [after] * 3, stored=([{}] * 8 + [{0}] * 3) if q == DS else [{}] * 11,
+         counters=[{}] + [{0: 50}] * 6 + [{0: 99}] + [{0: 100}] * 3)
+for q, before, after in ((SD, {}, {0}), (SL, {0}, {})):
+    chart = steps(1) + actions(1) + block(0, 0, q, 100) + END
+    show(f"hold in the middle of qualifier {q}, whose time ends under it", chart, [(50, {}), HOLD, (99, {}), (100, {}), RELEASE, (110, {})],
+         activity=[before] * 4 + [after] * 3, latched=[{0}] * 7, counters=[{}] + [{0: 50}] * 5 + [{0: 60}],
+         timers=[{}, {0: 50}, {0: 50}, {0: 99}, {0: 100}, {0: 100}, {0: 110}])
+    show(f"hold in the middle of qualifier {q}, whose time ends after it", chart, [(50, {}), HOLD, (80, {}), RELEASE, (99, {}), (100, {})],
+         activity=[before] * 6 + [after], counters=[{}] + [{0: 50}] * 4 + [{0: 69}, {0: 70}],
+         timers=[{}, {0: 50}, {0: 50}, {0: 80}, {0: 80}, {0: 99}, {0: 100}])
+show("hold in the middle of all five", FIVE, [(10, {0}), (59, {}), HOLD, (109, {}), (110, {}), RELEASE, (160, {}), (161, {})],
+     activity=[{}] + [{0, 4}] * 4 + [{0, 3}] * 3 + [{1, 2, 3}], stored=[{}] * 8 + [{2}],
+     counters=[{}, {}] + [{1: 49}] * 5 + [{1: 99}, {1: 100}],
+     timers=[{}, {}] + [{3: ms, 4: ms} for ms in (49, 49, 99, 100, 100, 150, 151)])
+show("a latch whose step was left runs on under hold", swing(1, block(0, 0, SD, 100)),
+     [(10, {0}), HOLD, (99, {1}), (100, {1}), RELEASE, (101, {1})], active=[{0}] + [{1}] * 5 + [{0}],
+     activity=[{}] * 4 + [{0}] * 3, outputs=[{}] * 4 + [{0: 10}] * 3, timers=[{}, {0: 10}, {0: 10}, {0: 99}, {0: 100}, {0: 100}, {0: 101}])
+show("an output changes under hold", SHARED + block(0, 0, SL, 100) + block(0, 1, N) + END, [HOLD, (99, {0}), (100, {0})],
+     activity=[{0, 1}, {0, 1}, {0, 1}, {1}], outputs=[{3: 111}, {3: 111}, {3: 111}, {3: -222}])
+# "Actions and outputs are worked out as usual": S sets and R resets again, S not where R does; a latch that R clears stays clear.
+# held_calls.py has runs in which what they set and reset was not so before.
+show("S and R under hold",
+     steps(2, [0, 1]) + actions(3) + block(0, 0, S) + block(0, 1, S) + block(0, 2, SL, 100) + block(1, 1, R) + block(1, 2, R) + END,
+     [HOLD, (10, {}), RELEASE, (20, {})], activity=[{0}] * 5, stored=[{0}] * 5, latched=[{}] * 5, timers=[{}] * 5, outputs=[{0: 10}] * 5)
+show("S, hold, then R and hold", path(1, block(0, 0, S), block(1, 0, R)), [HOLD, (5, {0}), RELEASE, (6, {0}), HOLD, (7, {1})],
+     taken=[{}, {}, {}, {}, {0}, {}, {}], activity=[{0}] * 4 + [{}] * 3, stored=[{0}] * 4 + [{}] * 3)
+show("reset under hold, latched afresh behind it",
+     steps(3, [0, 1]) + actions(1) + transition([1], [2], on=[0]) + transition([2], [1], on=[1]) + block(0, 0, SL, 100) + block(2, 0, R) + END,
+     [(50, {}), (60, {0}), HOLD, (80, {1}), RELEASE, (90, {1}), (189, {}), (190, {})],
+     activity=[{0}, {0}, {}, {}, {}, {}, {0}, {0}, {}], latched=[{0}, {0}, {}, {}, {}, {}, {0}, {0}, {0}],
+     timers=[{}, {0: 50}, {}, {}, {}, {}, {}, {0: 99}, {0: 100}])
+# "with nothing entered or left": a pulse lasts one call, and none begins; a turn of the key leaves activity and outputs as they are
+show("pulses and hold", PULSES, [HOLD, (10, {0}), (20, {0}), RELEASE, (30, {0}), HOLD, (40, {1}), RELEASE, (40, {1}), (50, {})],
+     taken=[{}] * 5 + [{0}] + [{}] * 3 + [{1}, {}], active=[{0}] * 5 + [{1}] * 4 + [{0}] * 2,
+     activity=[{0, 1}, {0, 1}, {}, {}, {}, {2, 3, 4}, {2, 3, 4}, {}, {}, {0, 1, 5}, {}],
+     outputs=[{0: 10, 1: 11}] * 2 + [{}] * 3 + [{2: 12, 3: 13, 4: 14}] * 2 + [{}] * 2 + [{0: 10, 1: 11, 5: 15}, {}])
+ON_PULSE = steps(2) + actions(1) + transition([0], [1], on=[32]) + block(0, 0, P1) + END
+show("an activity through the key", ON_PULSE, [HOLD, RELEASE, (5, {})], taken=[{}, {}, {}, {0}], activity=[{0}, {0}, {0}, {}])
+show("an activity that ended under hold", ON_PULSE, [HOLD, (5, {}), RELEASE, (6, {})], taken=[{}] * 5, activity=[{0}, {0}, {}, {}, {}],
+     reasons=[{}, {}, {0: 7}, {}, {0: 3}])
+# a case is compared as its step is left, after the release, with the signal of that cycle
+show("a case under hold, bad after it", INPUT_5, [(10, {0}), HOLD, (20, {1, 5}), RELEASE, (30, {1})],
+     taken=[{}, {0}, {}, {}, {}, {1}], good=[{}] * 6, bad=[{}] * 5 + [{0}])
+show("a case under hold, good after it", INPUT_5, [(10, {0}), HOLD, (20, {1}), RELEASE, (30, {1, 5})],
+     taken=[{}, {0}, {}, {}, {}, {1}], good=[{}] * 5 + [{0}], bad=[{}] * 6)
+show("what hold kept is not made up for", net(4, [0], ([0], [1]), ([1], [2]), ([2], [3])),
+     [HOLD, (1, {}), (2, {}), (3, {}), RELEASE, (4, {}), (5, {})], taken=[{}] * 6 + [{0}, {1}],
+     active=[{0}] * 6 + [{1}, {2}])
+# 11 as in any cycle: the run, held, is as it was, and so are the outputs; its reasons are 0
+show("refused cycles under hold, and the run goes on", net(2, [0], ([0], [1])),
+     [HOLD, (60_001, {}), (-1, {}), (60_000, {}), (59_999, {}), RELEASE, (120_001, {}), (120_000, {})],
+     code=[0, 0, 11, 11, 0, 11, 0, 11, 0], hold=[0] + [1] * 5 + [0] * 3, clock=[5000] * 4 + [65_000] * 4 + [125_000],
+     counters=[{}] * 9, taken=[{}] * 8 + [{0}], reasons=[{}] * 4 + [{0: 7}] + [{}] * 4)
+KEPT_HELD = {**KEPT, "hold": 1, "reasons": {}}
+show("a refused cycle under hold takes, marks and writes nothing", swing(2, block(0, 0, SD, 9), block(1, 1, N), case(1, 1, 1)),
+     [(10, {0}), HOLD, (70_000, {1}), (9, {1}), (11, {1})], {
+         1: {**KEPT, "code": 0, "taken": {0}, "hold": 0}, 2: {**KEPT_HELD, "code": 0}, 3: KEPT_HELD, 4: KEPT_HELD,
+         5: dict(code=0, taken={}, clock=5011, active={1}, activity={0, 1}, good={}, bad={}, hold=1, counters={}, timers={0: 11},
+                 outputs={0: 10, 1: 11}, reasons={0: 7, 1: 7})})
+# the clock is kept as usual, over its turn too
+show("hold as the clock turns", steps(1) + actions(1) + block(0, 0, SL, 500) + END, [HOLD, (496, {}), (500, {}), RELEASE, (503, {})],
+     clock=[TURN, TURN, 200, 204, 204, 207], counters=[{}] * 5 + [{0: 3}], activity=[{0}] * 3 + [{}] * 3,
+     timers=[{}, {}, {0: 496}, {0: 500}, {0: 500}, {0: 503}], start=TURN)
+show("hold and the limit over the turn", ALONE, [HOLD, (60_001, {}), (60_000, {}), RELEASE, (60_001, {})], code=[0, 0, 11, 0, 0, 0],
+     clock=[TURN, TURN, TURN, 59_704, 59_704, 59_705], counters=[{}] * 5 + [{0: 1}], start=TURN)
+# the mark is set or not: it does not count turns
+show("held twice, released once", WAIT_100, [HOLD, (40, {}), HOLD, HOLD, (50, {}), RELEASE, (149, {}), (150, {})],
+     code=[0] * 9, hold=[0, 1, 1, 1, 1, 1, 0, 0, 0], counters=[{}] * 7 + [{0: 99}, {}], taken=[{}] * 8 + [{0}])
+show("released without hold", WAIT_100, [RELEASE, (40, {}), RELEASE, (99, {}), RELEASE, RELEASE, (100, {})],
+     code=[0] * 8, hold=[0] * 8, counters=[{}, {}, {0: 40}, {0: 40}, {0: 99}, {0: 99}, {0: 99}, {}], taken=[{}] * 7 + [{0}])
+show("held and released between two cycles", WAIT_100, [(40, {}), HOLD, RELEASE, (99, {}), HOLD, HOLD, RELEASE, (100, {})],
+     hold=[0, 0, 1, 0, 0, 1, 1, 0, 0], counters=[{}] + [{0: 40}] * 3 + [{0: 99}] * 4 + [{}], taken=[{}] * 8 + [{0}])
+# "reason 7 of request (vi) is "hold" and comes first": before each other one, and where there is none; beyond the last transition it is 0
+show("7 before all reasons",
+     net(7, [0, 1, 4], ([0], [2]), ([5], [6]), ([0], [3]), ([1], [3], [0]), ([1], [3], (), (), 100), ([1], [4]), ([1], [2])),
+     [HOLD, (10, {}), RELEASE, (20, {})], taken=[{}] * 4 + [{0}],
+     reasons=[{}, {}, {k: 7 for k in range(7)}, {}, {k: k for k in range(1, 7)}])
+show("reasons of chart A and hold", CHART_A, [(10, {0}), HOLD, (509, {1}), (510, {1}), (61_000, {1}), RELEASE, (1009, {1}), (1010, {1})],
+     code=[0] * 5 + [11] + [0] * 3, taken=[{}, {0}] + [{}] * 6 + [{1}], activity=[{}] + [{0, 1}] * 7 + [{}], good=[{}] * 8 + [{0}],
+     reasons=[{}, {1: 1}, {}, {0: 7, 1: 7}, {0: 7, 1: 7}, {}, {}, {0: 1, 1: 4}, {0: 1}], start=1000)
+show("no transition, and hold", steps(1) + actions(1) + block(0, 0, N) + END, [HOLD, (10, {}), RELEASE, (20, {})],
+     code=[0] * 5, taken=[{}] * 5, activity=[{0}] * 5, reasons=[{}] * 5, clock=[5000, 5000, 5010, 5010, 5020], counters=[{}] * 4 + [{0: 10}])
+# start: "all else 0", whatever run lay there before: the driver starts the second of these where the first, held, lies
+show("64 reasons under hold", RIVALS, [HOLD, (1, {1}), (2, {0, 1})], hold=[0, 1, 1, 1], taken=[{}] * 4,
+     reasons=[{}, {}, {k: 7 for k in range(64)}, {k: 7 for k in range(64)}])
+show("a start behind a held run", RIVALS, [(1, {1})], hold=[0, 0], taken=[{}, {63}])
+
 
 def answers_of(name, data, clock, calls, expect):
     chart = parse(data)
     check_valid(chart)
     answers = [start(chart, clock)]
-    for clock, inputs in calls:
-        answers.append(cycle(chart, answers[-1].run, answers[-1].outputs, clock, inputs))
+    for call in calls:
+        run, lent = answers[-1].run, answers[-1].outputs
+        answers.append(turn(run, lent, int(call == HOLD)) if call in (HOLD, RELEASE) else cycle(chart, run, lent, *call))
     compare(name, answers, expect)
     return answers
 
 
+def call_bytes(call):
+    """As the head of driver.c has it."""
+    if call in (HOLD, RELEASE):
+        return b"\1" if call == HOLD else b"\2"
+    return struct.pack("<BII", 0, call[0], members(call[1]))
+
+
 def request(data, clock, calls):
     head = struct.pack("<H", len(data)) + data + struct.pack("<IH", clock, len(calls))
-    return head + b"".join(struct.pack("<II", clock, members(inputs)) for clock, inputs in calls)
+    return head + b"".join(map(call_bytes, calls))
 
 
 if __name__ == "__main__":
@@ -576,8 +705,12 @@ if __name__ == "__main__":
     }
     # the two forms by hand: chart A's input, and its calls at 1010 and 1509
     assert files["tests/stored/run_cycles.in"].startswith(
-        b"\x98\0" + CHART_A + b"\xe8\3\0\0" + b"\2\0" + b"\xf2\3\0\0\1\0\0\0" + b"\xe6\5\0\0\2\0\0\0")
-    assert lines[1] == "0 1 1010 2 3 2 0 0 0 c t o 120" + " 0" * 31 + " w 1:1"
-    assert lines[5] == "0 0 1509 2 3 2 0 0 0 c 1:499 t o 120" + " 0" * 31 + " w 0:1 1:4"
+        b"\x98\0" + CHART_A + b"\xe8\3\0\0" + b"\2\0" + b"\0\xf2\3\0\0\1\0\0\0" + b"\0\xe6\5\0\0\2\0\0\0")
+    assert lines[1] == "0 1 1010 2 3 2 0 0 0 0 c t o 120" + " 0" * 31 + " w 1:1"
+    assert lines[5] == "0 0 1509 2 3 2 0 0 0 0 c 1:499 t o 120" + " 0" * 31 + " w 0:1 1:4"
+    # and those of the key: the last case but one, held at its start, and chart A held in step 1
+    held = b"\x88\x13\0\0" + b"\3\0" + b"\1" + b"\0\x89\x13\0\0\2\0\0\0" + b"\0\x8a\x13\0\0\3\0\0\0"
+    assert request(*CASES[-2][1:4]).endswith(RIVALS + held) and call_bytes(RELEASE) == b"\2"
+    assert "0 0 1010 2 3 2 0 0 0 1 c t o 120" + " 0" * 31 + " w" in lines
     store(files, "tests/run_cycles.py")
     print(f"run_cycles: {len(CASES)} cases, {len(lines)} calls")

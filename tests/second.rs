@@ -1,9 +1,10 @@
 // A second engine for the chart, its cycle and its tally, written from document 01 alone, with the
 // writer of charts from request (i) of document 02, the rule for P from request (ii), the whole
-// shift in one call from request (iii) and the reasons why a transition waits from request (vi). No
-// other request of document 02 is followed. Words in quotation marks above a function are sentences
-// of document 01, or of request (i), (ii), (iii) or (vi) where that is said. A function that only
-// serves the command line says so instead, since none of them speaks of that.
+// shift in one call from request (iii), the reasons why a transition waits from request (vi) and
+// the hold key from request (vii). No other request of document 02 is followed. Words in quotation
+// marks above a function are sentences of document 01, or of request (i), (ii), (iii), (vi) or
+// (vii) where that is said. A function that only serves the command line says so instead, since
+// none of them speaks of that.
 
 use std::collections::BTreeSet;
 use std::io::{Read, Write};
@@ -558,6 +559,8 @@ fn test_chart(held: &Held) -> Result<Chart, Code> {
     Ok(chart)
 }
 
+// Request (vii): "The run record gets a hold mark" (a byte, so that one that is neither 0 nor 1 can
+// be given and given back)
 #[derive(Clone, PartialEq)]
 struct Run {
     clock: u32,
@@ -569,9 +572,11 @@ struct Run {
     action_timers: Vec<u32>,
     good: Set,
     bad: Set,
+    hold_mark: u8,
 }
 
-// "A refused start returns an all-zero run"; "... all else 0 ..."
+// "A refused start returns an all-zero run"; "... all else 0 ..." (the hold mark of request (vii)
+// too)
 fn zero_run() -> Run {
     Run {
         clock: 0,
@@ -583,6 +588,7 @@ fn zero_run() -> Run {
         action_timers: vec![0; 32],
         good: Set::new(),
         bad: Set::new(),
+        hold_mark: 0,
     }
 }
 
@@ -600,7 +606,8 @@ fn times_belong(times: &[u32], running: &Set) -> bool {
 
 // "A run belongs to a chart if active steps, activity, stored, latched and case marks name only
 // existing numbers; step counters of inactive steps and action timers of unlatched actions are 0;
-// none exceeds 86,400,000."; "12 | a run record that is not one of this chart"
+// none exceeds 86,400,000."; "12 | a run record that is not one of this chart"; request (vii): "12
+// covers the mark too, which must be 0 or 1"
 fn test_run(chart: &Chart, run: &Run) -> Result<(), Code> {
     let steps = numbers(chart.steps.len());
     let actions = numbers(chart.actions.len());
@@ -612,7 +619,8 @@ fn test_run(chart: &Chart, run: &Run) -> Result<(), Code> {
         && run.good.is_subset(&cases)
         && run.bad.is_subset(&cases)
         && times_belong(&run.step_counters, &run.active)
-        && times_belong(&run.action_timers, &run.latched);
+        && times_belong(&run.action_timers, &run.latched)
+        && (run.hold_mark == 0 || run.hold_mark == 1);
     if belongs {
         Ok(())
     } else {
@@ -704,15 +712,17 @@ fn test_cycle(held: &Held, run: &Run, clock: u32, outputs: &[i32]) -> Result<Cha
     Ok(chart)
 }
 
-// "Lent outputs stay untouched by a refusal"; "a refused cycle the run it was given"
+// "Lent outputs stay untouched by a refusal"; "a refused cycle the run it was given"; request
+// (vii): "In a cycle under hold ..." (it is one if the run it was given has the mark)
 fn cycle(held: &Held, run: &Run, clock: u32, inputs: u32, outputs: &mut [i32]) -> Answer {
     match test_cycle(held, run, clock, outputs) {
+        Ok(chart) if run.hold_mark == 1 => do_cycle_under_hold(&chart, run, clock, outputs),
         Ok(chart) => do_cycle(&chart, run, clock, inputs, outputs),
         Err(code) => refusal(code, run.clone()),
     }
 }
 
-// "One cycle", 1 to 6. "The run keeps the clock reading and the activity."
+// "One cycle", 1 to 6, without hold. "The run keeps the clock reading and the activity."
 fn do_cycle(chart: &Chart, given: &Run, clock: u32, inputs: u32, outputs: &mut [i32]) -> Answer {
     let mut run = given.clone();
     let signals = signals_of(inputs, &given.activity);
@@ -1237,6 +1247,64 @@ fn do_shift(
 }
 
 // ---------------------------------------------------------------------------------------------
+// The hold key (request (vii) of document 02)
+// ---------------------------------------------------------------------------------------------
+
+// Request (vii): "one call to set it and one to clear it"; "... return the run ..." (with the
+// number of refusal)
+struct Turned {
+    code: Code,
+    run: Run,
+}
+
+// Request (vii): "The run record gets a hold mark, with one call to set it ..."
+fn set_hold(held: &Held, run: &Run) -> Turned {
+    turn_key(held, run, 1)
+}
+
+// Request (vii): "... and one to clear it."
+fn clear_hold(held: &Held, run: &Run) -> Turned {
+    turn_key(held, run, 0)
+}
+
+// Request (vii): "setting and clearing test chart, then 12, and refused return the run as given"
+// (accepted, all else in the run stays, the clock reading and the activity too)
+fn turn_key(held: &Held, given: &Run, mark: u8) -> Turned {
+    let mut run = given.clone();
+    match test_chart(held).and_then(|chart| test_run(&chart, given)) {
+        Ok(()) => {
+            run.hold_mark = mark;
+            Turned { code: 0, run }
+        }
+        Err(code) => Turned { code, run },
+    }
+}
+
+// Request (vii): "In a cycle under hold no transition is taken and step counters stand still, while
+// action timers run on. Actions and outputs are worked out as usual, with nothing entered or left."
+// Document 01: "The run keeps the clock reading and the activity." (The inputs play no part:
+// without guards and left steps nothing reads them.)
+fn do_cycle_under_hold(chart: &Chart, given: &Run, clock: u32, outputs: &mut [i32]) -> Answer {
+    let nothing = Set::new();
+    let mut run = given.clone();
+    grow(&mut run.action_timers, &given.latched, elapsed(clock, given.clock));
+    do_actions(chart, &mut run, &nothing, &nothing);
+    write_outputs(chart, &run.activity, outputs);
+    run.clock = clock;
+    Answer { code: 0, taken: nothing, reasons: reasons_under_hold(chart), run }
+}
+
+// Request (vii): "reason 7 of request (vi) is "hold" and comes first"; request (vi): "Reasons ...
+// beyond the last transition are 0."
+fn reasons_under_hold(chart: &Chart) -> Vec<u8> {
+    let mut reasons = no_reasons();
+    for k in 0..chart.transitions.len() {
+        put(&mut reasons, k, 7);
+    }
+    reasons
+}
+
+// ---------------------------------------------------------------------------------------------
 // The printed run
 // ---------------------------------------------------------------------------------------------
 
@@ -1351,7 +1419,7 @@ fn tally_line(tally: &Tally) -> String {
 }
 
 // ---------------------------------------------------------------------------------------------
-// The command line (not spoken of in document 01 or in requests (i), (ii), (iii) and (vi))
+// The command line (not spoken of in document 01 or in requests (i), (ii), (iii), (vi) and (vii))
 // ---------------------------------------------------------------------------------------------
 
 // For the command line: one case of `print`, and what is printed for it.
@@ -1476,8 +1544,8 @@ fn cases_image(input: &mut Fields) -> Option<Vec<Case>> {
     Some((0..64).map(case).collect())
 }
 
-// For the command line: a run image. Every set keeps all 64 numbers, so that a refused cycle can
-// give back "the run it was given".
+// For the command line: a run image, with the hold mark as its last byte. Every set keeps all 64
+// numbers and the mark is any byte, so that a refused cycle can give back "the run it was given".
 fn run_image(input: &mut Fields) -> Option<Run> {
     let clock = input.take(4)? as u32;
     let active = set_of(input.take(8)?);
@@ -1488,11 +1556,24 @@ fn run_image(input: &mut Fields) -> Option<Run> {
     let action_timers = input.column(32, 4)?.iter().map(|time| *time as u32).collect();
     let good = set_of(input.take(8)?);
     let bad = set_of(input.take(8)?);
-    Some(Run { clock, active, activity, stored, latched, step_counters, action_timers, good, bad })
+    let hold_mark = input.take(1)? as u8;
+    Some(Run {
+        clock,
+        active,
+        activity,
+        stored,
+        latched,
+        step_counters,
+        action_timers,
+        good,
+        bad,
+        hold_mark,
+    })
 }
 
 // For the command line: one case of `held`, and its line. The calls are 0 start, 1 cycle, 2 tally,
-// 3 weighing, 4 writing and 5 shift; a shift's clocks and inputs follow the weights.
+// 3 weighing, 4 writing, 5 shift, 6 setting the hold mark and 7 clearing it; a shift's clocks and
+// inputs follow the weights.
 fn held_case(input: &mut Fields) -> Option<Vec<u8>> {
     let held = chart_image(input)?;
     let run = run_image(input)?;
@@ -1520,6 +1601,8 @@ fn held_case(input: &mut Fields) -> Option<Vec<u8>> {
             let list = input.column((clock / 65_536) as usize, 4)?;
             shift_line(&held, &run, &clocks, &list, inputs, &mut outputs)
         }
+        6 => turned_line(&set_hold(&held, &run)),
+        7 => turned_line(&clear_hold(&held, &run)),
         _ => b"unknown call\n".to_vec(),
     };
     Some(line)
@@ -1546,7 +1629,16 @@ fn answer_values(answer: &Answer, outputs: &[i32]) -> Vec<i128> {
     values
 }
 
-// For the command line: the fields of a run, in the line of a start, a cycle or a shift.
+// For the command line: the line of setting or clearing the hold mark: the number, 0 (where a start
+// has the transitions taken) and the run.
+fn turned_line(answer: &Turned) -> Vec<u8> {
+    let mut values = vec![i128::from(answer.code), 0];
+    values.extend(run_values(&answer.run));
+    line_of(values.iter())
+}
+
+// For the command line: the fields of a run, in the line of a start, a cycle, a shift or of turning
+// the hold key; the hold mark stands between the bad marks and the step counters.
 fn run_values(run: &Run) -> Vec<i128> {
     let words = [
         u64::from(run.clock),
@@ -1556,6 +1648,7 @@ fn run_values(run: &Run) -> Vec<i128> {
         word_of(&run.latched),
         word_of(&run.good),
         word_of(&run.bad),
+        u64::from(run.hold_mark),
     ];
     let mut values: Vec<i128> = words.iter().map(|word| i128::from(*word)).collect();
     values.extend(run.step_counters.iter().map(|time| i128::from(*time)));
@@ -1834,6 +1927,23 @@ fn selftest() {
     check_reason_taken(&mut bench);
     check_reason_many(&mut bench);
     check_reason_lines(&mut bench);
+    check_hold_key(&mut bench);
+    check_hold_mark(&mut bench);
+    check_hold_refusals(&mut bench);
+    check_hold_order(&mut bench);
+    check_hold_counted(&mut bench);
+    check_hold_latched(&mut bench);
+    check_hold_pulses(&mut bench);
+    check_hold_times(&mut bench);
+    check_hold_chart_a(&mut bench);
+    check_hold_clock(&mut bench);
+    check_hold_outputs(&mut bench);
+    check_hold_reasons(&mut bench);
+    check_hold_start(&mut bench);
+    check_hold_shift(&mut bench);
+    check_hold_by_lot(&mut bench);
+    check_hold_between(&mut bench);
+    check_hold_lines(&mut bench);
     check_printed(&mut bench);
     check_printed_second(&mut bench);
     check_printed_no_second(&mut bench);
@@ -2930,7 +3040,7 @@ fn check_shift_4096(b: &mut Bench) {
 }
 
 // For the command line: the chart and the run of a case of `held`: one step, action 0 (output 0,
-// value 7) with D 100 on it; clock 1000 and the step active.
+// value 7) with D 100 on it; clock 1000, the step active and the hold mark 0.
 fn held_image() -> Vec<u8> {
     let mut image = Vec::new();
     for count in [1u64, 1, 0, 1, 0].iter() {
@@ -2939,7 +3049,7 @@ fn held_image() -> Vec<u8> {
     image.extend([vec![1], vec![0; 63], vec![0; 32], vec![7], vec![0; 127]].concat());
     image.extend([vec![0; 4 * 512 + 256], vec![0; 512], vec![4], vec![0; 255]].concat());
     image.extend([vec![100], vec![0; 1023], vec![0; 192]].concat());
-    image.extend([vec![232, 3, 0, 0, 1], vec![0; 31], vec![0; 256 + 128 + 16]].concat());
+    image.extend([vec![232, 3, 0, 0, 1], vec![0; 31], vec![0; 256 + 128 + 16], vec![0]].concat());
     image
 }
 
@@ -2975,7 +3085,8 @@ fn four_bytes(values: &[u32]) -> Vec<u8> {
 // hand.
 fn check_shift_lines(b: &mut Bench) {
     let zeros = |count: usize| " 0".repeat(count);
-    let run = |text: &str, counter: u32| format!(" {} 0 0 0 0 {}{}", text, counter, zeros(63 + 32));
+    let rest = zeros(63 + 32);
+    let run = |text: &str, counter: u32| format!(" {} 0 0 0 0 0 {}{}", text, counter, rest);
     let lent: String = (0..33).map(|k| format!(" {}", 1000 + k)).collect();
     let written = |first: i32| format!(" {}{} 1032", first, zeros(31));
     let given = run("1000 1 0", 0);
@@ -2998,9 +3109,10 @@ fn check_shift_lines(b: &mut Bench) {
     every.latched = set_of(4);
     every.good = set_of(5);
     every.bad = set_of(6);
+    every.hold_mark = 255;
     put(&mut every.step_counters, 63, 7);
     put(&mut every.action_timers, 0, 8);
-    let fields = format!("9 9223372036854775808 2 3 4 5 6{} 7 8{}\n", zeros(63), zeros(31));
+    let fields = format!("9 9223372036854775808 2 3 4 5 6 255{} 7 8{}\n", zeros(63), zeros(31));
     b.check("fields of a run", line_of(run_values(&every).iter()) == fields.as_bytes());
     let lists = |clocks: &[u32], inputs: &[u32]| [four_bytes(clocks), four_bytes(inputs)].concat();
     let three = [fixed(3, 3, 3), lists(&[1060, 1100, 1101], &[u32::MAX, 0, 5])].concat();
@@ -3347,7 +3459,7 @@ fn check_reason_lines(b: &mut Bench) {
     let zeros = |count: usize| " 0".repeat(count);
     let (answer, _) = played(&held_a(), 1000, &[(1010, 1), (1509, 2)]);
     let line = String::from_utf8(cycle_line(&answer, &[120, -3])).unwrap_or_default();
-    let run = format!("0 0 1509 2 3 2 0 0 0 0 499{}", zeros(62 + 32));
+    let run = format!("0 0 1509 2 3 2 0 0 0 0 0 499{}", zeros(62 + 32));
     b.check("line of a cycle, 14", line == format!("{} 120 -3 1 4{}\n", run, zeros(62)));
     let line = String::from_utf8(start_line(&answer, &[120, -3])).unwrap_or_default();
     b.check("the same without reasons", line == format!("{} 120 -3\n", run));
@@ -3362,7 +3474,7 @@ fn check_reason_lines(b: &mut Bench) {
         String::from_utf8(line).unwrap_or_default()
     };
     let rest = zeros(62 + 32);
-    let run = |text: &str, counters: &str| format!("{} 0 0 0 0 {}{}", text, counters, rest);
+    let run = |text: &str, counters: &str| format!("{} 0 0 0 0 0 {}{}", text, counters, rest);
     let out = |first: i32| format!(" {}{}", first, zeros(31));
     let waits = format!("{}{} 4{}\n", run("0 0 1199 1 1", "199 0"), out(7), zeros(63));
     b.check("line of a cycle, 4", line_of_call(call_bytes(1, 1199, 0, 32, 0)) == waits);
@@ -3378,6 +3490,936 @@ fn check_reason_lines(b: &mut Bench) {
     let lists = [call_bytes(5, 65_537, 1, 32, 0), four_bytes(&[1199, 0])].concat();
     let shifted = format!("{}{} 1\n", run("0 1 1199 1 1", "199 0"), out(7));
     b.check("line of a shift, none", line_of_call(lists) == shifted);
+}
+
+// ---------------------------------------------------------------------------------------------
+// The selftest: the hold key
+// ---------------------------------------------------------------------------------------------
+
+// A call after a start: the mark set, the mark cleared, or a cycle with clock and inputs.
+#[derive(Clone, Copy)]
+enum Deed {
+    Set,
+    Clear,
+    Cycle(u32, u32),
+}
+
+// One such call; setting and clearing take no transition, give no reasons and write no outputs.
+fn deed_done(held: &Held, run: &Run, deed: Deed, outputs: &mut [i32]) -> Answer {
+    let turned = match deed {
+        Deed::Set => set_hold(held, run),
+        Deed::Clear => clear_hold(held, run),
+        Deed::Cycle(clock, inputs) => return cycle(held, run, clock, inputs, outputs),
+    };
+    Answer { code: turned.code, taken: Set::new(), reasons: no_reasons(), run: turned.run }
+}
+
+// One start and then such calls; the last answer and the outputs.
+fn keyed(held: &Held, clock: u32, deeds: &[Deed]) -> (Answer, Vec<i32>) {
+    let mut outputs = vec![5; 34];
+    let mut answer = start(held, clock, &mut outputs);
+    for deed in deeds {
+        answer = deed_done(held, &answer.run, *deed, &mut outputs);
+    }
+    (answer, outputs)
+}
+
+// The code of the answer, the taken transitions, the active steps and the activity after them.
+fn keyed_seen(held: &Held, clock: u32, deeds: &[Deed]) -> (Code, u64, u64, u64) {
+    let (answer, _) = keyed(held, clock, deeds);
+    let run = &answer.run;
+    (answer.code, word_of(&answer.taken), word_of(&run.active), word_of(&run.activity))
+}
+
+// A run with another hold mark and all else as it is.
+fn with_mark(run: &Run, mark: u8) -> Run {
+    let mut run = run.clone();
+    run.hold_mark = mark;
+    run
+}
+
+// A run of chart A in which everything is set that may be.
+fn full_run_a() -> Run {
+    let mut run = zero_run();
+    run.clock = 4_294_967_295;
+    run.active = numbers(2);
+    run.activity = numbers(2);
+    run.stored = numbers(2);
+    run.latched = numbers(2);
+    run.good = numbers(1);
+    run.bad = numbers(1);
+    put(&mut run.step_counters, 0, 86_400_000);
+    put(&mut run.step_counters, 1, 3);
+    put(&mut run.action_timers, 0, 4);
+    put(&mut run.action_timers, 1, 86_400_000);
+    run
+}
+
+// Request (vii): "The run record gets a hold mark, with one call to set it and one to clear it."
+// (nothing else in the run moves, however often it is set or cleared)
+fn check_hold_key(b: &mut Bench) {
+    let held = held_a();
+    let later = played(&held, 1000, &[(1010, 1), (1300, 0)]).0.run;
+    for run in [zero_run(), run_a(), later, full_run_a()].iter() {
+        b.check("no mark before", run.hold_mark == 0);
+        let set = set_hold(&held, run);
+        b.check("set", set.code == 0 && set.run == with_mark(run, 1));
+        let again = set_hold(&held, &set.run);
+        b.check("set again", again.code == 0 && again.run == set.run);
+        let cleared = clear_hold(&held, &set.run);
+        b.check("cleared", cleared.code == 0 && cleared.run == *run);
+        let again = clear_hold(&held, &cleared.run);
+        b.check("cleared again", again.code == 0 && again.run == *run);
+    }
+    let junk = held_a_with_junk();
+    b.check("set beside junk", set_hold(&junk, &run_a()).run == with_mark(&run_a(), 1));
+    b.check("junk plays no part", set_hold(&junk, &run_a()).code == 0);
+    // Action 0 has P1 on step 0: its activity stays until the next cycle, whatever the key does.
+    let away = transition(1, 2, 1 << 32, 0, 0);
+    let held = held_of(&[step(1), step(0), action(0, 9), away, block(0, 0, 9, 0)]);
+    let (set, clear) = (Deed::Set, Deed::Clear);
+    b.check("activity stays, set", keyed_seen(&held, 7, &[set]) == (0, 0, 1, 1));
+    b.check("activity stays, cleared", keyed_seen(&held, 7, &[set, clear]) == (0, 0, 1, 1));
+    let deeds = [set, clear, Deed::Cycle(8, 0)];
+    b.check("and is the signal", keyed_seen(&held, 7, &deeds) == (0, 1, 2, 0));
+    let deeds = [set, Deed::Cycle(8, 0), clear, Deed::Cycle(9, 0)];
+    b.check("of the call before", keyed_seen(&held, 7, &deeds) == (0, 0, 1, 0));
+    let (answer, outputs) = keyed(&held, 7, &[set, clear]);
+    b.check("the clock stays", answer.run.clock == 7);
+    b.check("the outputs stay", at(&outputs, 0) == 9);
+}
+
+// Request (vii): "12 covers the mark too, which must be 0 or 1" (in every call that tests 12)
+fn check_hold_mark(b: &mut Bench) {
+    let zeros = Tally { code: 12, passed: 0, failed: 0, notrun: 0 };
+    let all_zero = vec![0; 64];
+    for base in [zero_run(), run_a(), full_run_a()].iter() {
+        for mark in 0..=255 {
+            let run = with_mark(base, mark);
+            let wanted = if mark < 2 { 0 } else { 12 };
+            b.check("mark, cycle and tally", run_codes(&run) == (wanted, wanted));
+            let set = set_hold(&held_a(), &run);
+            let cleared = clear_hold(&held_a(), &run);
+            b.check("mark, set and clear", (set.code, cleared.code) == (wanted, wanted));
+            let one = shift_code(&held_a(), &run, [0; 3], 32, 0);
+            b.check("mark, shift of none", one == wanted);
+            if mark > 1 {
+                b.check("mark, set, run as given", set.run == run);
+                b.check("mark, clear, run as given", cleared.run == run);
+                b.check("mark, tally of zeros", tally(&held_a(), &run) == zeros);
+                let answer = cycle(&held_a(), &run, run.clock, 1, &mut [0; 32]);
+                b.check("mark, cycle, no reasons", answer.reasons == all_zero);
+                let code = shift_code(&held_a(), &run, [2; 3], 32, run.clock);
+                b.check("mark, shift of two", code == 12);
+            }
+        }
+    }
+    let mut run = run_a();
+    run.bad = numbers(1);
+    let failed = Tally { code: 0, passed: 0, failed: 1, notrun: 0 };
+    b.check("tally under hold", tally(&held_a(), &with_mark(&run, 1)) == failed);
+}
+
+// The numbers that setting and clearing give, if both return the run as given, else 99.
+fn key_codes(held: &Held, run: &Run) -> (Code, Code) {
+    let set = set_hold(held, run);
+    let cleared = clear_hold(held, run);
+    if set.run != *run || cleared.run != *run {
+        return (99, 99);
+    }
+    (set.code, cleared.code)
+}
+
+// Request (vii): "setting and clearing test chart, then 12, and refused return the run as given";
+// document 01: "4, then records by kind with 5, 6, 7, then 9, 8"
+fn check_hold_refusals(b: &mut Bench) {
+    let mut strange = run_a();
+    strange.active = numbers(3);
+    let mut counted = run_a();
+    put(&mut counted.step_counters, 1, 1);
+    let mut timed = run_a();
+    put(&mut timed.action_timers, 0, 1);
+    let mut long = run_a();
+    put(&mut long.step_counters, 0, 86_400_001);
+    let mut marked = run_a();
+    marked.bad = numbers(2);
+    let runs = [strange, counted, timed, long, marked];
+    let empty = hold(&Chart::default());
+    for mark in [0, 1, 2, 255].iter() {
+        for run in runs.iter().chain([with_mark(&run_a(), 2)].iter()) {
+            let run = with_mark(run, if run.hold_mark == 2 { 2 } else { *mark });
+            b.check("key: 12", key_codes(&held_a(), &run) == (12, 12));
+            b.check("key: no steps, 9 before 12", key_codes(&empty, &run) == (9, 9));
+            let mut held = held_a();
+            let timed = Block { step: 0, action: 0, qualifier: 3, duration: 9 };
+            held.tables.blocks = vec![timed.clone(), timed.clone(), timed];
+            b.check("key: 8 before 12", key_codes(&held, &run) == (8, 8));
+            held.tables.steps = vec![Step { initial: 0 }, Step { initial: 0 }];
+            b.check("key: 9 before 8", key_codes(&held, &run) == (9, 9));
+            held.tables.cases = vec![Case { step: 0, signal: 0, expected: 2 }];
+            b.check("key: 5 before 9", key_codes(&held, &run) == (5, 5));
+            if let Some(first) = held.tables.transitions.first_mut() {
+                first.off = set_of(1);
+            }
+            b.check("key: 7 of an earlier kind", key_codes(&held, &run) == (7, 7));
+            if let Some(first) = held.tables.transitions.first_mut() {
+                first.targets = set_of(1);
+            }
+            b.check("key: 6 before 7", key_codes(&held, &run) == (6, 6));
+            held.counts.actions = 33;
+            b.check("key: 4 first", key_codes(&held, &run) == (4, 4));
+        }
+    }
+    let mut broken = held_a();
+    broken.counts.steps = 65;
+    let good = with_mark(&run_a(), 1);
+    b.check("key: the chart alone", key_codes(&broken, &good) == (4, 4));
+    b.check("key: the chart alone, no mark", key_codes(&broken, &run_a()) == (4, 4));
+}
+
+// Rows 11, 12, 15 and 18 with a mark: "a cycle tests 15, chart, 12, 11"; request (iii): "15, chart,
+// 12, then 18 ...; then 11, at its place"; request (vii): "12 covers the mark too"
+fn check_hold_order(b: &mut Bench) {
+    let mut broken = held_a();
+    broken.counts.steps = 65;
+    for mark in [2, 3, 128, 254, 255].iter() {
+        let run = with_mark(&run_a(), *mark);
+        let mut few = vec![8; 31];
+        let mut enough = vec![8; 32];
+        let answer = cycle(&broken, &run, 999, 1, &mut few);
+        b.check("mark: 15 first", answer.code == 15 && answer.run == run);
+        let answer = cycle(&broken, &run, 999, 1, &mut enough);
+        b.check("mark: then the chart", answer.code == 4 && answer.run == run);
+        let answer = cycle(&held_a(), &run, 999, 1, &mut enough);
+        b.check("mark: then 12", answer.code == 12 && answer.run == run);
+        let answer = cycle(&held_a(), &run, 1001, 1, &mut enough);
+        b.check("mark: 12 alone", answer.code == 12 && answer.run == run);
+        b.check("mark: outputs untouched", few == vec![8; 31] && enough == vec![8; 32]);
+        b.check("mark: tally, chart first", tally(&broken, &run).code == 4);
+        for lengths in [[1; 3], [1, 2, 3], [4097; 3]].iter() {
+            let code = |held: &Held, lent| shift_code(held, &run, *lengths, lent, 999);
+            b.check("mark: shift, 15 first", code(&broken, 31) == 15);
+            b.check("mark: shift, then the chart", code(&broken, 32) == 4);
+            b.check("mark: shift, then 12", code(&held_a(), 32) == 12);
+        }
+    }
+    let run = with_mark(&run_a(), 1);
+    for lengths in [[1, 2, 3], [4097; 3]].iter() {
+        b.check("hold: then 18", shift_code(&held_a(), &run, *lengths, 32, 999) == 18);
+    }
+    b.check("hold: then 11", shift_code(&held_a(), &run, [1; 3], 32, 999) == 11);
+}
+
+// A chart of two steps, 0 initial, with one action (output 0, value 1), a transition from 0 to 1
+// that nothing holds back, and one block of step 0.
+fn held_one(qualifier: u8, duration: u32) -> Held {
+    let away = transition(1, 2, 0, 0, 0);
+    held_of(&[step(1), step(0), action(0, 1), away, block(0, 0, qualifier, duration)])
+}
+
+// A run of it at clock 1000 under hold, with step 0 active at this counter, the action latched with
+// this timer if there is one, and stored if that is said.
+fn run_one(counter: u32, timer: Option<u32>, stored: bool) -> Run {
+    let mut run = zero_run();
+    run.clock = 1000;
+    run.hold_mark = 1;
+    run.active = numbers(1);
+    put(&mut run.step_counters, 0, counter);
+    if let Some(timer) = timer {
+        run.latched = numbers(1);
+        put(&mut run.action_timers, 0, timer);
+    }
+    if stored {
+        run.stored = numbers(1);
+    }
+    run
+}
+
+// Whether a cycle 50 ms later, under hold, is accepted and leaves just this: activity and stored
+// (each 0 or 1), the timer if latched, the counter as it was, no transition taken, step 0 alone
+// active, no case marked, the clock reading renewed, the mark kept and the output by the activity.
+fn held_50(held: &Held, run: &Run, activity: u64, stored: bool, timer: Option<u32>) -> bool {
+    let mut wanted = run_one(at(&run.step_counters, 0), timer, stored);
+    wanted.clock = 1050;
+    wanted.activity = set_of(activity);
+    let mut outputs = vec![5; 33];
+    let answer = cycle(held, run, 1050, 0, &mut outputs);
+    let written = [vec![activity as i32], vec![0; 31], vec![5]].concat();
+    answer.code == 0
+        && answer.taken.is_empty()
+        && answer.reasons == reasons_by_hand("7")
+        && answer.run == wanted
+        && outputs == written
+}
+
+// Request (vii): "step counters stand still ... Actions and outputs are worked out as usual" (N, R,
+// S and the qualifiers with a step counter, each on both sides of its time)
+fn check_hold_counted(b: &mut Bench) {
+    let run = |counter| run_one(counter, None, false);
+    let ends = |held: &Held, counter, activity, stored| {
+        held_50(held, &run(counter), activity, stored, None)
+    };
+    b.check("hold, N", ends(&held_one(0, 0), 7, 1, false));
+    b.check("hold, S", ends(&held_one(2, 0), 7, 1, true));
+    b.check("hold, S at 0", ends(&held_one(2, 0), 0, 1, true));
+    b.check("hold, R", ends(&held_one(1, 0), 7, 0, false));
+    b.check("hold, L 100 at 0", ends(&held_one(3, 100), 0, 1, false));
+    b.check("hold, L 100 at 50", ends(&held_one(3, 100), 50, 1, false));
+    b.check("hold, L 100 at 99", ends(&held_one(3, 100), 99, 1, false));
+    b.check("hold, L 100 at 100", ends(&held_one(3, 100), 100, 0, false));
+    b.check("hold, L 0", ends(&held_one(3, 0), 0, 0, false));
+    b.check("hold, D 100 at 50", ends(&held_one(4, 100), 50, 0, false));
+    b.check("hold, D 100 at 99", ends(&held_one(4, 100), 99, 0, false));
+    b.check("hold, D 100 at 100", ends(&held_one(4, 100), 100, 1, false));
+    b.check("hold, D 0", ends(&held_one(4, 0), 0, 1, false));
+    b.check("hold, DS 100 at 50", ends(&held_one(7, 100), 50, 0, false));
+    b.check("hold, DS 100 at 99", ends(&held_one(7, 100), 99, 0, false));
+    b.check("hold, DS 100 at 100", ends(&held_one(7, 100), 100, 1, true));
+    b.check("hold, DS 0", ends(&held_one(7, 0), 0, 1, true));
+    let longest = 86_400_000;
+    b.check("hold, L longest, one before", ends(&held_one(3, longest), longest - 1, 1, false));
+    b.check("hold, L longest", ends(&held_one(3, longest), longest, 0, false));
+    b.check("hold, D longest, one before", ends(&held_one(4, longest), longest - 1, 0, false));
+    b.check("hold, D longest", ends(&held_one(4, longest), longest, 1, false));
+    b.check("hold, DS longest, one before", ends(&held_one(7, longest), longest - 1, 0, false));
+    b.check("hold, DS longest", ends(&held_one(7, longest), longest, 1, true));
+    for qualifier in [3, 4, 7].iter() {
+        let held = held_one(*qualifier, 100);
+        let stored = run_one(7, None, true);
+        b.check("hold, stored before", held_50(&held, &stored, 1, true, None));
+    }
+    let reset = held_one(1, 0);
+    b.check("hold, R of stored", held_50(&reset, &run_one(7, None, true), 0, false, None));
+    b.check("hold, R of latched", held_50(&reset, &run_one(7, Some(9), true), 0, false, None));
+    let both = |first, second| {
+        let away = transition(1, 2, 0, 0, 0);
+        held_of(&[step(1), step(0), action(0, 1), away, block(0, 0, first, 0), second])
+    };
+    b.check("hold, R over S", ends(&both(2, block(0, 0, 1, 0)), 7, 0, false));
+    b.check("hold, R over N", ends(&both(0, block(0, 0, 1, 0)), 7, 0, false));
+    b.check("hold, R over DS", ends(&both(1, block(0, 0, 7, 5)), 7, 0, false));
+    b.check("hold, R over SD", ends(&both(1, block(0, 0, 6, 0)), 7, 0, false));
+    for q in [0, 2, 3, 4, 6, 7, 8].iter() {
+        let elsewhere = both(5, block(1, 0, *q, 0));
+        b.check("hold, an inactive step's block", ends(&elsewhere, 7, 0, false));
+    }
+}
+
+// Request (vii): "action timers run on" (SD and SL, each on both sides of its time; the counter
+// plays no part)
+fn check_hold_latched(b: &mut Bench) {
+    let ends = |held: &Held, counter, timer: Option<u32>, activity, after| {
+        held_50(held, &run_one(counter, timer, false), activity, false, Some(after))
+    };
+    for counter in [0, 99, 100, 86_400_000].iter() {
+        let counter = *counter;
+        b.check("hold, SD 100 at 99", ends(&held_one(6, 100), counter, Some(49), 0, 99));
+        b.check("hold, SD 100 at 100", ends(&held_one(6, 100), counter, Some(50), 1, 100));
+        b.check("hold, SD 100 latched", ends(&held_one(6, 100), counter, None, 0, 0));
+        b.check("hold, SD 0 latched", ends(&held_one(6, 0), counter, None, 1, 0));
+        b.check("hold, SD 0 later", ends(&held_one(6, 0), counter, Some(0), 1, 50));
+        b.check("hold, SL 100 at 99", ends(&held_one(8, 100), counter, Some(49), 1, 99));
+        b.check("hold, SL 100 at 100", ends(&held_one(8, 100), counter, Some(50), 0, 100));
+        b.check("hold, SL 100 latched", ends(&held_one(8, 100), counter, None, 1, 0));
+        b.check("hold, SL 1 latched", ends(&held_one(8, 1), counter, None, 1, 0));
+        b.check("hold, SL 0 latched", ends(&held_one(8, 0), counter, None, 0, 0));
+        b.check("hold, SL 0 later", ends(&held_one(8, 0), counter, Some(0), 0, 50));
+    }
+    let longest = 86_400_000;
+    let (before, short) = (Some(longest - 51), longest - 1);
+    b.check("hold, SD longest", ends(&held_one(6, longest), 0, Some(longest - 50), 1, longest));
+    b.check("hold, SD longest, before", ends(&held_one(6, longest), 0, before, 0, short));
+    b.check("hold, SL longest, before", ends(&held_one(8, longest), 0, before, 1, short));
+    b.check("hold, the timer's cap", ends(&held_one(8, longest), 0, Some(longest - 1), 0, longest));
+    b.check("hold, at the cap", ends(&held_one(6, 5), 0, Some(longest), 1, longest));
+    // Latched by a step that has been left: 0 has SD or SL 100 and goes on to 1, which has nothing.
+    for (qualifier, words) in [(6, [0, 0, 1]), (8, [1, 1, 0])].iter() {
+        let held = held_one(*qualifier, 100);
+        let deeds = [Deed::Cycle(30, 0), Deed::Set, Deed::Cycle(99, 0), Deed::Cycle(100, 0)];
+        let left = keyed_seen(&held, 0, deeds.get(..1).unwrap_or(&[]));
+        b.check("left, then hold", left == (0, 1, 2, at(words, 0)));
+        let first = keyed_seen(&held, 0, deeds.get(..3).unwrap_or(&[]));
+        b.check("left, hold at 99", first == (0, 0, 2, at(words, 1)));
+        b.check("left, hold at 100", keyed_seen(&held, 0, &deeds) == (0, 0, 2, at(words, 2)));
+        let run = keyed(&held, 0, &deeds).0.run;
+        b.check("left, timer", at(&run.action_timers, 0) == 100);
+        b.check("left, counter", at(&run.step_counters, 1) == 0);
+    }
+    // An unlatched action's timer stays 0: action 1 has D, action 0 SD.
+    let blocks = [block(0, 0, 6, 100), block(0, 1, 4, 100)].concat();
+    let held = held_of(&[step(1), action(0, 1), action(1, 1), blocks]);
+    let run = keyed(&held, 0, &[Deed::Set, Deed::Cycle(150, 0)]).0.run;
+    b.check("hold, only the latched", at(&run.action_timers, 0) == 150);
+    b.check("hold, not the other", at(&run.action_timers, 1) == 0);
+    b.check("hold, SD 100 and D 100 part", word_of(&run.activity) == 1);
+}
+
+// Request (vii): "with nothing entered or left" (P, P1 and P0, with a transition that nothing else
+// holds back)
+fn check_hold_pulses(b: &mut Bench) {
+    let actions = [action(0, 1), action(1, 1), action(2, 1)].concat();
+    let of_step = |k| [block(k, 0, 5, 0), block(k, 1, 9, 0), block(k, 2, 10, 0)].concat();
+    let moves = [transition(1, 2, 1, 0, 0), transition(2, 1, 2, 0, 0)].concat();
+    let go = |inputs| Deed::Cycle(0, inputs);
+    let (set, clear) = (Deed::Set, Deed::Clear);
+    let held = held_of(&[step(1), step(0), actions.clone(), moves.clone(), of_step(0)]);
+    b.check("pulses, start and set", keyed_seen(&held, 0, &[set]) == (0, 0, 1, 3));
+    b.check("pulses over under hold", keyed_seen(&held, 0, &[set, go(0)]) == (0, 0, 1, 0));
+    b.check("no leaving under hold", keyed_seen(&held, 0, &[set, go(1)]) == (0, 0, 1, 0));
+    let deeds = [set, go(1), go(1), clear, go(0)];
+    b.check("none when the key turns back", keyed_seen(&held, 0, &deeds) == (0, 0, 1, 0));
+    let deeds = [set, go(1), go(1), clear, go(1)];
+    b.check("leaving after it", keyed_seen(&held, 0, &deeds) == (0, 1, 2, 4));
+    let deeds = [go(1), set, go(0)];
+    b.check("left, then hold", keyed_seen(&held, 0, &deeds) == (0, 0, 2, 0));
+    let deeds = [go(1), set, go(2)];
+    b.check("no entering under hold", keyed_seen(&held, 0, &deeds) == (0, 0, 2, 0));
+    let deeds = [go(1), set, go(2), clear, go(2)];
+    b.check("entering after it", keyed_seen(&held, 0, &deeds) == (0, 2, 1, 3));
+    let deeds = [go(1), go(2), set, go(0)];
+    b.check("entered, then hold", keyed_seen(&held, 0, &deeds) == (0, 0, 1, 0));
+    let held = held_of(&[step(1), step(0), actions, moves, of_step(1)]);
+    b.check("no entering of the target", keyed_seen(&held, 0, &[set, go(1)]) == (0, 0, 1, 0));
+    let deeds = [set, go(1), clear, go(1)];
+    b.check("the target after it", keyed_seen(&held, 0, &deeds) == (0, 1, 2, 3));
+    for qualifier in [5, 9, 10].iter() {
+        for stored in [false, true].iter() {
+            let held = held_one(*qualifier, 0);
+            let run = run_one(0, None, *stored);
+            let activity = u64::from(*stored);
+            b.check("a pulse alone", held_50(&held, &run, activity, *stored, None));
+        }
+    }
+}
+
+// Request (vii): "step counters stand still, while action timers run on" (of several steps and
+// actions, over several cycles, up to the cap)
+fn check_hold_times(b: &mut Bench) {
+    let blocks = [block(0, 0, 6, 200), block(1, 1, 8, 200), block(2, 2, 4, 5)].concat();
+    let actions = [action(0, 1), action(1, 2), action(2, 3)].concat();
+    let held = held_of(&[step(1), step(1), step(1), step(0), actions, blocks]);
+    let mut run = played(&held, 0, &[(3, 0), (4, 0)]).0.run;
+    let counters = |run: &Run| run.step_counters.get(..5).unwrap_or(&[]).to_vec();
+    let timers = |run: &Run| run.action_timers.get(..4).unwrap_or(&[]).to_vec();
+    b.check("before", counters(&run) == [4, 4, 4, 0, 0] && timers(&run) == [4, 4, 0, 0]);
+    run = set_hold(&held, &run).run;
+    let words = [(4, 2), (5, 2), (199, 2), (200, 1), (60_200, 1), (60_200, 1)];
+    for (clock, activity) in words.iter() {
+        let answer = cycle(&held, &run, *clock, u32::MAX, &mut [0; 32]);
+        run = answer.run;
+        b.check("under hold", answer.code == 0 && run.clock == *clock && run.hold_mark == 1);
+        b.check("counters stand", counters(&run) == [4, 4, 4, 0, 0]);
+        b.check("timers run", timers(&run) == [*clock, *clock, 0, 0]);
+        b.check("D 5 at 4 stands too", word_of(&run.activity) == *activity);
+    }
+    run = clear_hold(&held, &run).run;
+    run = cycle(&held, &run, 60_201, 0, &mut [0; 32]).run;
+    b.check("counters go on", counters(&run) == [5, 5, 5, 0, 0]);
+    b.check("timers as before", timers(&run) == [60_201, 60_201, 0, 0]);
+    b.check("D 5 at 5", word_of(&run.activity) == 5);
+    let held = held_of(&[step(1), action(0, 1), block(0, 0, 6, 86_400_000)]);
+    let mut run = with_mark(&zero_run(), 1);
+    run.active = numbers(1);
+    run.latched = numbers(1);
+    put(&mut run.step_counters, 0, 86_399_999);
+    put(&mut run.action_timers, 0, 86_399_998);
+    let first = cycle(&held, &run, 1, 0, &mut [0; 32]).run;
+    b.check("cap: the timer grows", at(&first.action_timers, 0) == 86_399_999);
+    b.check("cap: not yet active", first.activity.is_empty());
+    let second = cycle(&held, &first, 60_001, 0, &mut [0; 32]).run;
+    b.check("cap: the timer stops", at(&second.action_timers, 0) == 86_400_000);
+    b.check("cap: now active", word_of(&second.activity) == 1);
+    b.check("cap: the counter stood", at(&second.step_counters, 0) == 86_399_999);
+    // 1,440 cycles of 60,000 ms under hold: the whole of the longest time.
+    let mut run = with_mark(&played(&held, 0, &[(7, 0)]).0.run, 1);
+    for k in 1..1441 {
+        run = cycle(&held, &run, 7 + 60_000 * k, 0, &mut [0; 32]).run;
+    }
+    b.check("a day under hold, counter", at(&run.step_counters, 0) == 7);
+    b.check("a day under hold, timer", at(&run.action_timers, 0) == 86_400_000);
+    b.check("a day under hold, clock", run.clock == 86_400_007);
+}
+
+// Request (vii): "In a cycle under hold no transition is taken and step counters stand still"; "...
+// with nothing entered or left" (so the wait of chart A is only reached by the time of cycles
+// without hold, and no case is marked under it)
+fn check_hold_chart_a(b: &mut Bench) {
+    let held = held_a();
+    let go = |clock, inputs| Deed::Cycle(clock, inputs);
+    let (set, clear) = (Deed::Set, Deed::Clear);
+    let one = Tally { code: 0, passed: 1, failed: 0, notrun: 0 };
+    let none = Tally { code: 0, passed: 0, failed: 0, notrun: 1 };
+    let at_once = [set, go(1010, 1), go(1020, 3)];
+    b.check("chart A held at once", keyed_seen(&held, 1000, &at_once) == (0, 0, 1, 0));
+    let deeds = [go(1010, 1), set, go(1510, 2), go(1600, 3), go(61_600, 2)];
+    b.check("chart A held at 500", keyed_seen(&held, 1000, &deeds) == (0, 0, 2, 3));
+    let (answer, outputs) = keyed(&held, 1000, &deeds);
+    b.check("chart A held, tally", tally(&held, &answer.run) == none);
+    b.check("chart A held, no mark", answer.run.good.is_empty() && answer.run.bad.is_empty());
+    b.check("chart A held, counter", at(&answer.run.step_counters, 1) == 0);
+    b.check("chart A held, stored", word_of(&answer.run.stored) == 2);
+    b.check("chart A held, output", at(&outputs, 0) == 120 && at(&outputs, 1) == 0);
+    let reached = [go(1010, 1), go(1510, 0), set, go(1511, 2), go(1512, 0)];
+    b.check("wait reached, held", keyed_seen(&held, 1000, &reached) == (0, 0, 2, 3));
+    let (answer, _) = keyed(&held, 1000, &reached);
+    b.check("wait reached, counter", at(&answer.run.step_counters, 1) == 500);
+    b.check("wait reached, tally", tally(&held, &answer.run) == none);
+    let cleared = [reached.to_vec(), vec![clear, go(1512, 2)]].concat();
+    b.check("wait reached, cleared", keyed_seen(&held, 1000, &cleared) == (0, 2, 1, 0));
+    let (answer, _) = keyed(&held, 1000, &cleared);
+    b.check("cleared, tally", tally(&held, &answer.run) == one);
+    // 99 ms before the hold and 400 after it are one too few.
+    let part = [go(1010, 1), go(1109, 0), set, go(1200, 2), go(1600, 2), go(61_600, 2), clear];
+    let (answer, _) = keyed(&held, 1000, &part);
+    b.check("99 ms before the hold", at(&answer.run.step_counters, 1) == 99);
+    let short = [part.to_vec(), vec![go(62_000, 2)]].concat();
+    b.check("499 ms without hold", keyed_seen(&held, 1000, &short) == (0, 0, 2, 3));
+    let enough = [part.to_vec(), vec![go(62_001, 2)]].concat();
+    b.check("500 ms without hold", keyed_seen(&held, 1000, &enough) == (0, 2, 1, 0));
+    let two = [short, vec![go(62_001, 2)]].concat();
+    b.check("500 ms in two", keyed_seen(&held, 1000, &two) == (0, 2, 1, 0));
+    // A case is compared with the signal of the cycle that leaves, never with one under hold.
+    let moves = transition(1, 2, 1, 0, 0);
+    let cases = [case(0, 1, 1), case(0, 1, 0), case(0, 0, 1), case(1, 0, 0)].concat();
+    let held = held_of(&[step(1), step(0), moves, cases]);
+    let (answer, _) = keyed(&held, 0, &[set, go(1, 3), go(2, 1), go(3, 0)]);
+    b.check("no case marked", answer.run.good.is_empty() && answer.run.bad.is_empty());
+    let (answer, _) = keyed(&held, 0, &[set, go(1, 3), go(2, 0), clear, go(3, 1)]);
+    b.check("marks by the last", word_of(&answer.run.good) == 6);
+    b.check("and bad by the last", word_of(&answer.run.bad) == 1);
+    let (later, _) = keyed(&held, 0, &[go(1, 1), set, go(2, 2), go(3, 3)]);
+    b.check("marks from before stay", word_of(&later.run.good) == 6);
+    b.check("bad ones too", word_of(&later.run.bad) == 1);
+    // Set and cleared between two cycles: as if the key had not been turned.
+    let turned = [go(1010, 1), set, clear, go(1510, 2)];
+    let (answer, _) = keyed(&held_a(), 1000, &turned);
+    let (same, _) = played(&held_a(), 1000, &[(1010, 1), (1510, 2)]);
+    b.check("no cycle under hold", answer.run == same.run && answer.taken == same.taken);
+}
+
+// "Elapsed time is the new reading ... minus the last, modulo 2^32." and row 11, under hold: "Last
+// clock 4,294,967,000, new 200: elapsed 496."; "Elapsed 60,000 accepted; 60,001 refused 11; clock
+// one back refused 11."; "a refused cycle the run it was given" (with its mark)
+fn check_hold_clock(b: &mut Bench) {
+    let blocks = [block(0, 0, 6, 496), block(0, 1, 4, 1)].concat();
+    let away = transition(1, 2, 0, 0, 0);
+    let held = held_of(&[step(1), step(0), action(0, 1), action(1, 1), away, blocks]);
+    for (new, timer, activity) in [(200, 496, 1), (199, 495, 0), (0, 296, 0)].iter() {
+        let (answer, _) = keyed(&held, 4_294_967_000, &[Deed::Set, Deed::Cycle(*new, 0)]);
+        let run = &answer.run;
+        b.check("turn: accepted", answer.code == 0 && run.clock == *new);
+        b.check("turn: timer", at(&run.action_timers, 0) == *timer);
+        b.check("turn: counter", at(&run.step_counters, 0) == 0);
+        b.check("turn: activity", word_of(&run.activity) == *activity);
+        b.check("turn: mark and step", run.hold_mark == 1 && word_of(&run.active) == 1);
+    }
+    let over = [Deed::Set, Deed::Cycle(4_294_967_295, 0), Deed::Cycle(0, 0), Deed::Cycle(1, 0)];
+    let (answer, _) = keyed(&held, 4_294_967_000, &over);
+    b.check("turn in three", at(&answer.run.action_timers, 0) == 297);
+    let cleared = [over.to_vec(), vec![Deed::Clear, Deed::Cycle(3, 0)]].concat();
+    let (answer, _) = keyed(&held, 4_294_967_000, &cleared);
+    b.check("turn, then cleared", answer.code == 0 && word_of(&answer.taken) == 1);
+    b.check("turn, timer goes on", at(&answer.run.action_timers, 0) == 299);
+    let began = keyed(&held, 5, &[Deed::Set]).0.run;
+    for (clock, code) in [(60_005, 0), (60_006, 11), (4, 11), (u32::MAX, 11), (5, 0)].iter() {
+        for inputs in [0, 1, u32::MAX].iter() {
+            let mut outputs = vec![6; 40];
+            let answer = cycle(&held, &began, *clock, *inputs, &mut outputs);
+            b.check("hold, 11 or not", answer.code == *code && answer.taken.is_empty());
+            let refused = answer.run == began && outputs == vec![6; 40];
+            b.check("hold, 11, run as given", refused == (*code == 11));
+            let digits = if *code == 11 { "" } else { "7" };
+            b.check("hold, 11, reasons", answer.reasons == reasons_by_hand(digits));
+            b.check("hold, mark kept", answer.run.hold_mark == 1);
+        }
+    }
+    let deeds = [Deed::Set, Deed::Cycle(60_006, 0), Deed::Cycle(60_005, 0)];
+    let (answer, _) = keyed(&held, 5, &deeds);
+    b.check("hold goes on after 11", answer.code == 0 && answer.run.clock == 60_005);
+    b.check("with the whole time", at(&answer.run.action_timers, 0) == 60_000);
+    // The reading is renewed under hold: 60,000 ms after the last held cycle is accepted.
+    let deeds = [Deed::Set, Deed::Cycle(60_000, 0), Deed::Clear, Deed::Cycle(120_000, 0)];
+    b.check("the reading is renewed", keyed_seen(&held, 0, &deeds).0 == 0);
+    let deeds = [Deed::Set, Deed::Cycle(60_000, 0), Deed::Clear, Deed::Cycle(120_001, 0)];
+    b.check("and tested again", keyed_seen(&held, 0, &deeds).0 == 11);
+    let deeds = [Deed::Set, Deed::Clear, Deed::Cycle(60_001, 0)];
+    b.check("the key renews nothing", keyed_seen(&held, 0, &deeds).0 == 11);
+    let mut few = vec![6; 31];
+    let answer = cycle(&held, &began, 6, 0, &mut few);
+    b.check("hold, 15", answer.code == 15 && answer.run == began && few == vec![6; 31]);
+    b.check("hold, 15, no reasons", answer.reasons == reasons_by_hand(""));
+    let mut broken = held.clone();
+    broken.counts.cases = 65;
+    let mut enough = vec![6; 32];
+    let answer = cycle(&broken, &began, 6, 0, &mut enough);
+    b.check("hold, 4", answer.code == 4 && answer.run == began && enough == vec![6; 32]);
+    b.check("hold, 4, no reasons", answer.reasons == reasons_by_hand(""));
+    let mut strange = began.clone();
+    strange.active = numbers(3);
+    let answer = cycle(&held, &strange, 6, 0, &mut enough);
+    b.check("hold, 12", answer.code == 12 && answer.run == strange && enough == vec![6; 32]);
+    b.check("hold, 12, no reasons", answer.reasons == reasons_by_hand(""));
+}
+
+// Request (vii): "Actions and outputs are worked out as usual"; document 01: "Each output gets the
+// value of its first active action in the table, else 0."; "writes the first 32 and no others"
+fn check_hold_outputs(b: &mut Bench) {
+    let actions = [action(3, 9), action(3, -7), action(3, 8), action(31, i32::MIN)].concat();
+    let blocks = [block(0, 0, 9, 0), block(0, 1, 8, 50), block(0, 2, 0, 0), block(0, 3, 6, 50)];
+    let held = held_of(&[step(1), actions, blocks.concat()]);
+    let wanted = |three: i32, last: i32| {
+        [vec![0; 3], vec![three], vec![0; 27], vec![last], vec![5; 2]].concat()
+    };
+    let (answer, outputs) = keyed(&held, 0, &[Deed::Set]);
+    b.check("outputs of the start stay", outputs == wanted(9, 0));
+    b.check("activity of the start stays", word_of(&answer.run.activity) == 7);
+    let (answer, outputs) = keyed(&held, 0, &[Deed::Set, Deed::Cycle(49, 0)]);
+    b.check("outputs under hold, 49", outputs == wanted(-7, 0));
+    b.check("activity under hold, 49", word_of(&answer.run.activity) == 6);
+    let (answer, outputs) = keyed(&held, 0, &[Deed::Set, Deed::Cycle(50, 0)]);
+    b.check("outputs under hold, 50", outputs == wanted(8, i32::MIN));
+    b.check("activity under hold, 50", word_of(&answer.run.activity) == 12);
+}
+
+// Request (vii): "reason 7 of request (vi) is "hold" and comes first" (before each of the others
+// and before "taken"); request (vi): "Reasons of a start, of a refused call and beyond the last
+// transition are 0."; "prints a second line with the reason of every transition in number order as
+// one digit"
+fn check_hold_reasons(b: &mut Bench) {
+    for word in 0..64 {
+        let held = held_back(&set_of(word << 1), (1, 2));
+        let (answer, _) = keyed(&held, 0, &[Deed::Set, Deed::Cycle(9, 2)]);
+        b.check("hold before these", answer.code == 0 && answer.reasons == reasons_by_hand("77"));
+        b.check("hold takes nothing", answer.taken.is_empty() && taken_agree(&held, &answer));
+        b.check("hold's second line", second_line(&held, &answer) == "77\n");
+        let (before, _) = played(&held, 0, &[(9, 2)]);
+        let deeds = [Deed::Set, Deed::Cycle(0, 2), Deed::Clear, Deed::Cycle(9, 2)];
+        let (after, _) = keyed(&held, 0, &deeds);
+        b.check("without hold as before", after.reasons == before.reasons);
+        b.check("taken as before", after.taken == before.taken && after.run == before.run);
+    }
+    let why = |held: &Held, digits: &str| {
+        let (answer, _) = keyed(held, 0, &[Deed::Set, Deed::Cycle(1, 1)]);
+        let line = second_line(held, &answer) == digits.to_string() + "\n";
+        answer.code == 0 && answer.reasons == reasons_by_hand(digits) && line
+    };
+    b.check("hold, no transitions", why(&held_of(&[step(1)]), ""));
+    b.check("hold, chart A", why(&held_a(), "77"));
+    b.check("hold, junk beyond", why(&held_a_with_junk(), "77"));
+    let mut held = held_a();
+    held.counts.transitions = 1;
+    b.check("hold, one transition fewer", why(&held, "7"));
+    let held = held_steps(&[1, 0], &vec![transition(1, 2, 1, 0, 0); 64]);
+    b.check("hold, 64 transitions", why(&held, &"7".repeat(64)));
+    let held = held_steps(&[1, 0], &[transition(2, 1, 0, 0, 0)]);
+    b.check("hold, a source not active", why(&held, "7"));
+    let began = keyed(&held_a(), 0, &[Deed::Set]).0.run;
+    let mut outputs = vec![0; 32];
+    let refused = cycle(&held_a(), &began, 60_001, 1, &mut outputs);
+    b.check("hold, refused, none", refused.code == 11 && refused.reasons == reasons_by_hand(""));
+    b.check("hold, refused, no line", second_line(&held_a(), &refused).is_empty());
+    let all_zero = with_mark(&zero_run(), 1);
+    let answer = cycle(&held_a(), &all_zero, 0, 3, &mut outputs);
+    b.check("hold, no active step", answer.reasons == reasons_by_hand("77"));
+}
+
+// "Start makes the initial steps active and entered, none left, all else 0"; "A refused start
+// returns an all-zero run" (so the mark is 0, whatever was before)
+fn check_hold_start(b: &mut Bench) {
+    let mut outputs = vec![0; 32];
+    for held in [held_a(), held_of_all(), held_one(6, 0)].iter() {
+        let answer = start(held, 9, &mut outputs);
+        b.check("start, mark 0", answer.code == 0 && answer.run.hold_mark == 0);
+    }
+    b.check("all-zero run, mark 0", zero_run().hold_mark == 0);
+    b.check("15, mark 0", start(&held_a(), 9, &mut []).run.hold_mark == 0);
+    let mut broken = held_a();
+    broken.counts.steps = 65;
+    b.check("4, mark 0", start(&broken, 9, &mut outputs).run.hold_mark == 0);
+    let (answer, _) = keyed(&held_a(), 1000, &[Deed::Set, Deed::Cycle(1001, 1)]);
+    b.check("held", answer.run.hold_mark == 1 && answer.taken.is_empty());
+    let again = start(&held_a(), 1001, &mut outputs);
+    let answer = cycle(&held_a(), &again.run, 1002, 1, &mut outputs);
+    b.check("a new start is not held", word_of(&answer.taken) == 1);
+}
+
+// A shift of cycles from a run, made singly: what it must leave (outputs 5 before).
+fn singly_from(held: &Held, run: &Run, cycles: &[(u32, u32)]) -> Shifted {
+    let mut words = lent_words(cycles.len());
+    let mut outputs = vec![5; 34];
+    let mut now = run.clone();
+    for (k, (clock, inputs)) in cycles.iter().enumerate() {
+        let answer = cycle(held, &now, *clock, *inputs, &mut outputs);
+        if answer.code != 0 {
+            return (answer.code, k as u64, now, words, outputs);
+        }
+        now = answer.run;
+        put(&mut words, k, word_of(&now.activity));
+    }
+    (0, cycles.len() as u64, now, words, outputs)
+}
+
+// Request (iii): "The result equals the calls made singly." (a shift that begins under hold goes on
+// under it to its end)
+fn check_hold_shift(b: &mut Bench) {
+    let blocks = [block(0, 0, 3, 100), block(0, 1, 4, 100), block(0, 2, 6, 100)].concat();
+    let more = [block(0, 3, 8, 100), block(0, 4, 9, 0), block(0, 5, 10, 0)].concat();
+    let actions: Vec<Vec<u8>> = (0..6).map(|k| action(k, 1)).collect();
+    let away = transition(1, 2, 0, 0, 0);
+    let held = held_of(&[step(1), step(0), actions.concat(), away, blocks, more, case(0, 0, 1)]);
+    let began = keyed(&held, 0, &[Deed::Set]).0.run;
+    let cycles = [(0, 1), (99, 1), (100, 0), (60_100, u32::MAX)];
+    let (code, accepted, run, words, outputs) = shifted(&held, &began, &cycles);
+    b.check("shift under hold", (code, accepted) == (0, 4));
+    b.check("shift under hold, words", words == vec![9, 9, 5, 5]);
+    b.check("shift under hold, mark", run.hold_mark == 1 && run.clock == 60_100);
+    b.check("shift under hold, step", word_of(&run.active) == 1 && run.good.is_empty());
+    b.check("shift under hold, counter", at(&run.step_counters, 0) == 0);
+    b.check("shift under hold, timer", at(&run.action_timers, 2) == 60_100);
+    let written = [vec![1, 0, 1], vec![0; 29], vec![5; 2]].concat();
+    b.check("shift under hold, outputs", outputs == written && run.bad.is_empty());
+    let none = (0, 0, began.clone(), vec![], vec![5; 34]);
+    b.check("no cycles under hold", shifted(&held, &began, &[]) == none);
+    let cycles = [(50, 1), (49, 1), (100, 1)];
+    let (code, accepted, run, words, _) = shifted(&held, &began, &cycles);
+    b.check("shift under hold, 11", (code, accepted, run.clock) == (11, 1, 50));
+    b.check("shift under hold, 11, mark", run.hold_mark == 1);
+    b.check("shift under hold, 11, words", words == vec![9, u64::MAX - 1, u64::MAX - 2]);
+    let first = (11, 0, began.clone(), lent_words(1), vec![5; 34]);
+    b.check("shift under hold, 11 first", shifted(&held, &began, &[(60_001, 1)]) == first);
+    let cleared = clear_hold(&held, &began).run;
+    let (_, _, run, words, _) = shifted(&held, &cleared, &[(10, 1), (20, 0)]);
+    b.check("the same without hold", words == vec![40, 8] && word_of(&run.active) == 2);
+    b.check("the same, no mark", run.hold_mark == 0 && word_of(&run.good) == 1);
+    // All qualifiers: the hold begins after each number of cycles.
+    let held = held_of_all();
+    let cycles = cycles_of_all();
+    let mut seen_words = BTreeSet::new();
+    for count in 0..cycles.len() + 1 {
+        let (first, second) = cycles.split_at(count);
+        let before = played(&held, 4_294_967_000, first).0.run;
+        let run = set_hold(&held, &before).run;
+        let answer = shifted(&held, &run, second);
+        b.check("singly under hold", answer == singly_from(&held, &run, second));
+        b.check("all accepted", (answer.0, answer.1) == (0, second.len() as u64));
+        let kept = answer.2.active == before.active && answer.2.hold_mark == 1;
+        b.check("steps kept", kept && answer.2.step_counters == before.step_counters);
+        b.check("marks kept", answer.2.good == before.good && answer.2.bad == before.bad);
+        seen_words.extend(answer.3);
+    }
+    b.check("many words under hold", seen_words.len() > 8);
+}
+
+// A chart drawn by lot: six steps, eight transitions, four actions with a timed and three untimed
+// blocks each, and four cases.
+fn held_by_lot(lot: &mut u64) -> Held {
+    let mut records = vec![step(1)];
+    records.extend((0..5).map(|_| step((next_lot(lot) % 2) as u8)));
+    records.extend((0..4).map(|k| action(k % 3, 10 + i32::from(k))));
+    records.extend((0..8).map(|_| transition_by_lot(lot)));
+    for k in 0..4 {
+        let timed = at(&[3u8, 4, 6, 7, 8], (next_lot(lot) % 5) as usize);
+        let where_timed = (next_lot(lot) % 6) as u8;
+        records.push(block(where_timed, k, timed, (next_lot(lot) % 4 * 7) as u32));
+        for _ in 0..3 {
+            let untimed = at(&[0u8, 1, 2, 5, 9, 10], (next_lot(lot) % 6) as usize);
+            records.push(block((next_lot(lot) % 6) as u8, k, untimed, 0));
+        }
+    }
+    for _ in 0..4 {
+        records.push(case((next_lot(lot) % 6) as u8, (next_lot(lot) % 36) as u8, 1));
+    }
+    held_of(&records)
+}
+
+// Request (vii), by another way: "no transition is taken ... with nothing entered or left" as a
+// chart without transitions; "step counters stand still" as an elapsed time of 0; "action timers
+// run on" as timers that have grown before. (The run after the cycle, and the outputs.)
+fn under_hold_otherwise(held: &Held, run: &Run, clock: u32, inputs: u32) -> (Run, Vec<i32>) {
+    let mut still = held.clone();
+    still.counts.transitions = 0;
+    let mut grown = with_mark(run, 0);
+    for k in 0..32 {
+        if run.latched.contains(&k) {
+            let timer = u64::from(at(&run.action_timers, k)) + u64::from(clock - run.clock);
+            put(&mut grown.action_timers, k, timer.min(86_400_000) as u32);
+        }
+    }
+    grown.clock = clock;
+    let mut outputs = vec![5; 34];
+    let answer = cycle(&still, &grown, clock, inputs, &mut outputs);
+    (with_mark(&answer.run, 1), outputs)
+}
+
+// One more for each of these steps.
+fn count_up(counts: &mut [usize], steps: &Set) {
+    for step in steps {
+        let more = at(counts, *step) + 1;
+        put(counts, *step, more);
+    }
+}
+
+// Request (vii): "Actions and outputs are worked out as usual"; "Demand 3 holds with such calls
+// between cycles" (many charts and calls by lot: for every step, initial plus arrivals is
+// departures plus active, by the transitions taken; a call under hold leaves what the other way
+// leaves)
+fn check_hold_by_lot(b: &mut Bench) {
+    let mut lot = 7;
+    let (mut held_cycles, mut taken_after, mut words) = (0, 0, BTreeSet::new());
+    for _ in 0..200 {
+        let held = held_by_lot(&mut lot);
+        b.check("a chart by lot", held_code(&held) == 0);
+        let mut run = played(&held, 0, &[]).0.run;
+        let (mut arrived, mut departed) = (vec![0; 6], vec![0; 6]);
+        count_up(&mut arrived, &run.active);
+        let mut outputs = vec![5; 34];
+        for k in 1..25 {
+            let (clock, inputs) = (7 * k, next_lot(&mut lot) as u32 % 8);
+            let deed = match next_lot(&mut lot) % 8 {
+                0 | 1 => Deed::Set,
+                2 => Deed::Clear,
+                _ => Deed::Cycle(clock, inputs),
+            };
+            let answer = deed_done(&held, &run, deed, &mut outputs);
+            b.check("accepted by lot", answer.code == 0);
+            match deed {
+                Deed::Set => b.check("set by lot", answer.run == with_mark(&run, 1)),
+                Deed::Clear => b.check("cleared by lot", answer.run == with_mark(&run, 0)),
+                Deed::Cycle(..) if run.hold_mark == 1 => {
+                    let (other, written) = under_hold_otherwise(&held, &run, clock, inputs);
+                    b.check("under hold by lot", answer.run == other && outputs == written);
+                    b.check("all 7 by lot", answer.reasons == reasons_by_hand("77777777"));
+                    held_cycles += 1;
+                    words.insert(word_of(&other.activity));
+                }
+                Deed::Cycle(..) => {
+                    b.check("no hold by lot", taken_agree(&held, &answer));
+                    b.check("no 7 by lot", answer.reasons.iter().all(|reason| *reason < 7));
+                    taken_after += answer.taken.len();
+                }
+            }
+            for t in answer.taken.iter().filter_map(|k| held.tables.transitions.get(*k)) {
+                count_up(&mut arrived, &t.targets);
+                count_up(&mut departed, &t.sources);
+            }
+            run = answer.run;
+            let active = |step| usize::from(run.active.contains(&step));
+            let even = |step| at(&arrived, step) == at(&departed, step) + active(step);
+            b.check("the ledger by lot", (0..6).all(even));
+        }
+    }
+    b.check("many cycles under hold", held_cycles > 1000 && words.len() == 16);
+    b.check("and some taken", taken_after > 200);
+}
+
+// Request (vii): a key that is set and cleared again before a cycle, or cleared when it is clear,
+// changes nothing of it (all qualifiers, at every place)
+fn check_hold_between(b: &mut Bench) {
+    let held = held_of_all();
+    let cycles = cycles_of_all();
+    let clock = 4_294_967_000;
+    let deed_of = |(clock, inputs): &(u32, u32)| Deed::Cycle(*clock, *inputs);
+    let plain: Vec<Deed> = cycles.iter().map(deed_of).collect();
+    let (whole, outputs) = keyed(&held, clock, &plain);
+    let same = |deeds: &[Deed]| {
+        let (answer, written) = keyed(&held, clock, deeds);
+        let run = answer.run == whole.run && answer.taken == whole.taken;
+        answer.code == 0 && run && answer.reasons == whole.reasons && written == outputs
+    };
+    for place in 0..plain.len() {
+        let (first, second) = plain.split_at(place);
+        let turned = [first, &[Deed::Set, Deed::Set, Deed::Clear], second].concat();
+        b.check("set and cleared", same(&turned));
+        b.check("cleared", same(&[first, &[Deed::Clear], second].concat()));
+        let (held_then, _) = keyed(&held, clock, &[first, &[Deed::Set], second].concat());
+        b.check("set and left so", held_then.run.hold_mark == 1 && held_then.taken.is_empty());
+    }
+}
+
+// For the command line: the hold mark in a run image and in the lines, and the calls 6 and 7, by
+// hand.
+fn check_hold_lines(b: &mut Bench) {
+    let zeros = |count: usize| " 0".repeat(count);
+    let line_of_call = |image: &[u8], call: Vec<u8>| {
+        let input = [image, &call].concat();
+        let mut fields = Fields::new(&input);
+        let line = held_case(&mut fields).unwrap_or_default();
+        (String::from_utf8(line).unwrap_or_default(), fields.place == input.len())
+    };
+    let whole = |line: String| (line, true);
+    let image_of = |mark: u8| {
+        let mut image = held_image();
+        let last = image.len() - 1;
+        put(&mut image, last, mark);
+        image
+    };
+    let run = |text: &str, mark: u8| format!("{} 0 0 0 0 {}{}", text, mark, zeros(64 + 32));
+    let key = |kind| call_bytes(kind, 77, 88, 33, 0);
+    for mark in 0..=255 {
+        let accepted = mark < 2;
+        let set = run(if accepted { "0 0 1000 1 0" } else { "12 0 1000 1 0" }, mark.max(1)) + "\n";
+        b.check("line of 6", line_of_call(&image_of(mark), key(6)) == whole(set));
+        let left = if accepted { 0 } else { mark };
+        let cleared = run(if accepted { "0 0 1000 1 0" } else { "12 0 1000 1 0" }, left) + "\n";
+        b.check("line of 7", line_of_call(&image_of(mark), key(7)) == whole(cleared));
+        let began = format!("{}{} 1032\n", run("0 0 77 1 0", 0), zeros(32));
+        b.check("line of 0", line_of_call(&image_of(mark), key(0)) == whole(began));
+    }
+    let lent: String = (0..33).map(|k| format!(" {}", 1000 + k)).collect();
+    let cycle = |clock| call_bytes(1, clock, 0, 33, 0);
+    let stood = format!("{}{} 1032{}\n", run("0 0 1101 1 0", 1), zeros(32), zeros(64));
+    b.check("line of 1, held", line_of_call(&image_of(1), cycle(1101)) == whole(stood));
+    let refused = format!("{}{}{}\n", run("11 0 1000 1 0", 1), lent, zeros(64));
+    b.check("line of 1, 11", line_of_call(&image_of(1), cycle(999)) == whole(refused));
+    let refused = format!("{}{}{}\n", run("12 0 1000 1 0", 255), lent, zeros(64));
+    b.check("line of 1, 12", line_of_call(&image_of(255), cycle(1101)) == whole(refused));
+    let tally = call_bytes(2, 0, 0, 0, 0);
+    b.check("line of 2", line_of_call(&image_of(1), tally.clone()) == whole("0 0 0 0\n".into()));
+    b.check("line of 2, 12", line_of_call(&image_of(2), tally) == whole("12 0 0 0\n".into()));
+    let two = [call_bytes(5, 131_074, 2, 33, 0), four_bytes(&[1060, 1101, 0, 0])].concat();
+    let shifted = format!("{}{} 1032 0 0\n", run("0 2 1101 1 0", 1), zeros(32));
+    b.check("line of 5, held", line_of_call(&image_of(1), two.clone()) == whole(shifted));
+    let refused = format!("{}{} 4294967296 4294967297\n", run("12 0 1000 1 0", 2), lent);
+    b.check("line of 5, 12", line_of_call(&image_of(2), two) == whole(refused));
+    // SD 100 in the place of D, latched with timer 60, the counter 5 and a transition to step 1.
+    let mut image = image_of(1);
+    let first = image.len() - 437;
+    for (place, byte) in [(0, 2), (16, 1), (264, 1), (776, 2), (3080, 6)].iter() {
+        put(&mut image, *place, *byte);
+    }
+    for (place, byte) in [(28, 1), (36, 5), (292, 60)].iter() {
+        put(&mut image, first + *place, *byte);
+    }
+    let run = |text: &str, mark: u8, timer: u32| {
+        format!("{} 0 1 0 0 {} 5{} {}{}", text, mark, zeros(63), timer, zeros(31))
+    };
+    let out = |value: i32| format!(" {}{} 1032", value, zeros(31));
+    let line = format!("{}{} 7{}\n", run("0 0 1039 1 0", 1, 99), out(0), zeros(63));
+    b.check("line of 1, SD at 99", line_of_call(&image, cycle(1039)) == whole(line));
+    let line = format!("{}{} 7{}\n", run("0 0 1040 1 1", 1, 100), out(7), zeros(63));
+    b.check("line of 1, SD at 100", line_of_call(&image, cycle(1040)) == whole(line));
+    let set = run("0 0 1000 1 0", 1, 60) + "\n";
+    b.check("line of 6, counter and timer", line_of_call(&image, key(6)) == whole(set));
+    let cleared = run("0 0 1000 1 0", 0, 60) + "\n";
+    b.check("line of 7, counter and timer", line_of_call(&image, key(7)) == whole(cleared));
+    put(&mut image, 0, 65);
+    let refused = run("4 0 1000 1 0", 1, 60) + "\n";
+    b.check("line of 6, 4", line_of_call(&image, key(6)) == whole(refused.clone()));
+    b.check("line of 7, 4", line_of_call(&image, key(7)) == whole(refused));
+    // Clock, inputs and lent outputs play no part, the weights are passed over.
+    let set = format!("0 0 1000 1 0 0 0 0 0 1{}\n", zeros(64 + 32));
+    let cleared = format!("0 0 1000 1 0 0 0 0 0 0{}\n", zeros(64 + 32));
+    let weights = |kind| [call_bytes(kind, u32::MAX, u32::MAX, 0, 3), vec![9; 6]].concat();
+    let calls = [weights(6), key(7), call_bytes(6, 0, 0, 255, 0), weights(7), key(6)];
+    let lines = [&set, &cleared, &set, &cleared, &set].map(|line| line.as_str()).concat();
+    b.check("6 and 7, one after the other", held_lines(&calls) == (lines, true));
+    b.check("no call 8", held_lines(&[key(8)]) == ("unknown call\n".into(), true));
+    let image = image_of(200);
+    let mut fields = Fields::new(image.get(first..).unwrap_or(&[]));
+    let mark = run_image(&mut fields).map(|run| run.hold_mark);
+    b.check("the mark is the last byte", mark == Some(200) && fields.place == 437);
+    let mut fields = Fields::new(image.get(first..first + 436).unwrap_or(&[]));
+    b.check("an image without the mark", run_image(&mut fields).is_none());
 }
 
 // ---------------------------------------------------------------------------------------------
