@@ -329,6 +329,8 @@ static inline unsigned belongs(const struct tw_chart *c, const struct tw_run *r)
 	uint64_t noaction = from(c->actions);
 	if ((r->active & from(c->steps)) | ((r->activity | r->stored | r->latched) & noaction) | ((r->good | r->bad) & from(c->cases)))
 		return 0;
+	if (r->hold > 1)
+		return 0;
 	return !(counts_bad(r->counters, TW_STEPS, r->active) | counts_bad(r->timers, TW_ACTIONS, r->latched));
 }
 
@@ -406,8 +408,10 @@ static void mark(const struct tw_chart *c, struct tw_run *r, uint64_t left, uint
 	}
 }
 
-/* Paragraphs 4 to 6, P by request (ii): the run has its new steps and counters, and timers that have grown. */
-static void settle(const struct tw_chart *c, struct tw_run *r, uint64_t entered, uint64_t left, int32_t *outputs)
+/* Paragraphs 4 to 6, P by request (ii): the run has its new steps and counters, and timers that have grown. It is compiled twice: for runs that move,
+   and for held ones, in which no block is asked for a pulse. */
+static inline __attribute__((always_inline)) void settle_after(const struct tw_chart *c, struct tw_run *r, uint64_t entered, uint64_t left,
+	int32_t *outputs)
 {
 	uint64_t active = r->active, reset = 0, set = 0, latch = 0, want = 0, ripe = 0;
 	for (size_t i = 0; i < c->blocks; i++) {
@@ -444,6 +448,11 @@ static void settle(const struct tw_chart *c, struct tw_run *r, uint64_t entered,
 			outputs[c->output[a]] = c->value[a];
 }
 
+static void settle(const struct tw_chart *c, struct tw_run *r, uint64_t entered, uint64_t left, int32_t *outputs)
+{
+	settle_after(c, r, entered, left, outputs);
+}
+
 enum tw_code c_start(const struct tw_chart *c, struct tw_run *r, uint32_t clock, int32_t *outputs, size_t lent)
 {
 	memset(r, 0, sizeof *r);
@@ -470,6 +479,25 @@ static enum tw_code ready_code(const struct tw_chart *c, const struct tw_run *r,
 	return belongs(c, r) ? TW_ACCEPTED : TW_OTHER_RUN;
 }
 
+/* Request (vii): the key turned, to hold or back, after the tests of a cycle but that of the outputs, which it has none of. */
+static enum tw_code turn(const struct tw_chart *c, struct tw_run *r, uint8_t hold)
+{
+	enum tw_code code = ready_code(c, r, TW_OUTPUTS);
+	if (code == TW_ACCEPTED)
+		r->hold = hold;
+	return code;
+}
+
+enum tw_code c_hold(const struct tw_chart *c, struct tw_run *r)
+{
+	return turn(c, r, 1);
+}
+
+enum tw_code c_release(const struct tw_chart *c, struct tw_run *r)
+{
+	return turn(c, r, 0);
+}
+
 /* A cycle of a chart and a run that passed those tests: 11, then paragraphs 1 to 6; with no reasons for a null. */
 static inline enum tw_code advance(const struct tw_chart *c, struct tw_run *r, uint32_t clock, uint32_t inputs, int32_t *outputs, uint64_t *taken,
 	uint8_t *reasons)
@@ -491,6 +519,18 @@ static inline enum tw_code advance(const struct tw_chart *c, struct tw_run *r, u
 	return TW_ACCEPTED;
 }
 
+/* Request (vii): the same of a held run. Nothing is chosen, left or entered, so only the timers grow before the actions. */
+static enum tw_code stand(const struct tw_chart *c, struct tw_run *r, uint32_t clock, int32_t *outputs)
+{
+	uint32_t elapsed = clock - r->clock;
+	if (elapsed > TW_LATEST)
+		return TW_TOO_LATE;
+	grow(r->timers, r->latched, elapsed);
+	settle_after(c, r, 0, 0, outputs);
+	r->clock = clock;
+	return TW_ACCEPTED;
+}
+
 enum tw_code c_cycle(const struct tw_chart *c, struct tw_run *r, uint32_t clock, uint32_t inputs, int32_t *outputs, size_t lent, uint64_t *taken,
 	uint8_t reasons[TW_TRANSITIONS])
 {
@@ -499,7 +539,12 @@ enum tw_code c_cycle(const struct tw_chart *c, struct tw_run *r, uint32_t clock,
 	enum tw_code code = ready_code(c, r, lent);
 	if (code)
 		return code;
-	return advance(c, r, clock, inputs, outputs, taken, reasons);
+	if (!r->hold)
+		return advance(c, r, clock, inputs, outputs, taken, reasons);
+	code = stand(c, r, clock, outputs);
+	if (code == TW_ACCEPTED)
+		memset(reasons, TW_HOLD, c->transitions);
+	return code;
 }
 
 enum tw_code c_shift(const struct tw_chart *c, struct tw_run *r, const uint32_t *clocks, size_t nclocks, const uint32_t *inputs, size_t ninputs,
@@ -512,12 +557,15 @@ enum tw_code c_shift(const struct tw_chart *c, struct tw_run *r, const uint32_t 
 		return code;
 	if (nclocks != ninputs || nclocks != nwords || nclocks > TW_SHIFT)
 		return TW_UNEVEN_LISTS;
-	for (size_t k = 0; k < nclocks; k++) {
-		code = advance(c, r, clocks[k], inputs[k], outputs, &taken, NULL);
-		if (code)
-			return code;
-		words[k] = r->activity;
-		*accepted = k + 1;
+	/* No cycle turns the key: it is asked for once. */
+	size_t k = 0;
+	if (r->hold) {
+		for (; k < nclocks && !(code = stand(c, r, clocks[k], outputs)); k++)
+			words[k] = r->activity;
+	} else {
+		for (; k < nclocks && !(code = advance(c, r, clocks[k], inputs[k], outputs, &taken, NULL)); k++)
+			words[k] = r->activity;
 	}
-	return TW_ACCEPTED;
+	*accepted = k;
+	return code;
 }

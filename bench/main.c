@@ -4,11 +4,14 @@
      bench soak    SEED CHARTS N            N thousand cycles on each of CHARTS charts, compared after each: equal, or exit 1
      bench cycles  CHART ENGINE SEED N      N cycles of small, typical, full or waiting on the engine proved, c or both (both: exit 1 if they differ)
      bench shift   CHART ENGINE SEED N      N cycles, at most 4,096, in one shift
+     bench held-cycles CHART ENGINE SEED N  N cycles, at most 3,996, of a run that has made 100 and is held by the key
+     bench held-shift  CHART ENGINE SEED N  N cycles of such a run, at most 4,096, in one shift
+     bench turned  CHART ENGINE SEED N      N cycles, at most 4,096, singly and in shifts, and the key turned between them
      bench reads   CHART ENGINE SEED N      N readings of the chart's bytes
      bench tests   CHART ENGINE SEED N      N tests of the held chart
      bench writes  CHART ENGINE SEED N      N writings of the held chart
-     bench time    CHART SEED N             nanoseconds of both for one of N cycles, N cycles in one shift (N at most 4,096), N readings, N tests
-                                            and N writings, and their ratios
+     bench time    CHART SEED N             nanoseconds of both for one of N cycles and of N in one shift, without and with the key set (N at most
+                                            3,996), of N readings, N tests and N writings, and their ratios
 
    Charts and inputs are made at run time from the seed, and both engines are compiled apart from this file, so that no call is folded away. */
 #include "engine.h"
@@ -218,21 +221,44 @@ static void random_chart(struct file *f)
 		put(f, any_word(), 1 + any(4));
 }
 
-/* A shift may be lent one more than it takes; it is refused then, and the last one is never read. */
-enum { ROOM = TW_SHIFT };
-static uint32_t clocks[ROOM + 1], inputs[ROOM + 1];
+/* A shift may be lent one more than it takes; it is refused then, and the last one is never read. A run that is held and then counted has made some
+   cycles before. */
+enum { ROOM = TW_SHIFT, BEFORE = 100 };
+static uint32_t clocks[BEFORE + ROOM + 1], inputs[BEFORE + ROOM + 1];
 
 /* Clocks that go on from `last` by up to 50 ms; with `jumps` now and then some that go back or on by up to two minutes, so that cycles in the
    middle are refused. */
 static void some_inputs(uint32_t last, int jumps)
 {
-	for (size_t i = 0; i < ROOM; i++) {
+	for (size_t i = 0; i < BEFORE + ROOM; i++) {
 		clocks[i] = last + any(50);
 		if (jumps && any(10) == 0)
 			clocks[i] = last + any(any(2) ? TW_LATEST + 2 : 2 * TW_LATEST) - any(any(4) ? 1 : 100);
 		if (clocks[i] - last <= TW_LATEST)
 			last = clocks[i];
 		inputs[i] = (uint32_t)any_word();
+	}
+}
+
+/* A run goes by stretches: the key is turned, or not, and so many cycles follow, singly or in one shift. For the length of some the mark is altered: by
+   its last bit, which leaves a run of this chart, or by any. */
+struct stretch {
+	enum { LEFT, HELD, RELEASED } key;
+	uint8_t alter;
+	int shift;
+	uint32_t cycles;
+};
+enum { STRETCHES = 64 };
+static struct stretch plan[STRETCHES];
+
+static void some_stretches(void)
+{
+	for (size_t k = 0; k < STRETCHES; k++) {
+		uint32_t key = any(8);
+		plan[k].key = key == 0 ? HELD : key < 5 ? RELEASED : LEFT;
+		plan[k].alter = any(16) ? 0 : any(2) ? 1 : (uint8_t)(1u << any(8));
+		plan[k].shift = any(2) == 0;
+		plan[k].cycles = any(any(4) ? 10 : 200);
 	}
 }
 
@@ -261,14 +287,16 @@ struct engine {
 	enum tw_code (*cycle)(const struct tw_chart *, struct tw_run *, uint32_t, uint32_t, int32_t *, size_t, uint64_t *, uint8_t *);
 	enum tw_code (*shift)(const struct tw_chart *, struct tw_run *, const uint32_t *, size_t, const uint32_t *, size_t, uint64_t *, size_t,
 		int32_t *, size_t, size_t *);
+	enum tw_code (*hold)(const struct tw_chart *, struct tw_run *);
+	enum tw_code (*release)(const struct tw_chart *, struct tw_run *);
 };
 
-static const struct engine PROVED = { tw_read, tw_test, tw_write, tw_start, tw_cycle, tw_shift };
-static const struct engine PLAIN = { c_read, c_test, c_write, c_start, c_cycle, c_shift };
+static const struct engine PROVED = { tw_read, tw_test, tw_write, tw_start, tw_cycle, tw_shift, tw_hold, tw_release };
+static const struct engine PLAIN = { c_read, c_test, c_write, c_start, c_cycle, c_shift, c_hold, c_release };
 
 /* All that calls answer or leave: numbers, what was counted, the chart and the run, and what was lent. */
 struct bench {
-	uint64_t sum, accepted, taken;
+	uint64_t sum, accepted, held, taken;
 	size_t place, length, shifted;
 	struct tw_chart chart;
 	struct tw_run run;
@@ -281,10 +309,11 @@ struct bench {
 static void blank(struct bench *b)
 {
 	memset(b, 165, sizeof *b);
-	b->sum = b->accepted = 0;
+	b->sum = b->accepted = b->held = 0;
 }
 
-/* A byte of the chart and of the run that is altered once they are there, and how. */
+/* Whether a run is held once it is started; then a byte of the chart and of the run that is altered, and how. */
+static int held_first;
 static size_t chart_at, run_at;
 static uint8_t chart_by, run_by;
 
@@ -292,13 +321,15 @@ static void read_and_start(const struct engine *e, const struct file *f, struct 
 {
 	b->sum += e->read(f->bytes, f->size, &b->chart, &b->place);
 	b->sum += e->start(&b->chart, &b->run, clocks[0], b->outputs, TW_OUTPUTS + 4);
+	if (held_first)
+		b->sum += e->hold(&b->chart, &b->run);
 	((uint8_t *)&b->chart)[chart_at] ^= chart_by;
 	((uint8_t *)&b->run)[run_at] ^= run_by;
 }
 
-static void make_cycles(const struct engine *e, uint32_t n, struct bench *b)
+static void make_cycles(const struct engine *e, uint32_t from, uint32_t n, struct bench *b)
 {
-	for (uint32_t i = 0; i < n; i++) {
+	for (uint32_t i = from; i < from + n; i++) {
 		enum tw_code code = e->cycle(&b->chart, &b->run, clocks[i % ROOM], inputs[i % ROOM], b->outputs, TW_OUTPUTS + 4, &b->taken,
 			b->reasons);
 		b->sum += code;
@@ -306,28 +337,69 @@ static void make_cycles(const struct engine *e, uint32_t n, struct bench *b)
 	}
 }
 
+/* N cycles by the plan. Where a shift is refused, the next stretch goes on behind that cycle. */
+static void make_stretches(const struct engine *e, uint32_t n, struct bench *b)
+{
+	uint32_t i = 0;
+	for (uint32_t k = 0; i < n; k++) {
+		const struct stretch *s = &plan[k % STRETCHES];
+		uint32_t many = s->cycles < n - i ? s->cycles : n - i;
+		uint64_t yet = b->accepted;
+		b->run.hold ^= s->alter;
+		if (s->key != LEFT)
+			b->sum += (s->key == HELD ? e->hold : e->release)(&b->chart, &b->run);
+		if (s->shift) {
+			b->sum += e->shift(&b->chart, &b->run, clocks + i, many, inputs + i, many, b->activities + i, many, b->outputs,
+				TW_OUTPUTS + 4, &b->shifted);
+			b->accepted += b->shifted;
+			many = b->shifted < many ? (uint32_t)b->shifted + 1 : many;
+		} else {
+			make_cycles(e, i, many, b);
+		}
+		if (b->run.hold)
+			b->held += b->accepted - yet;
+		b->run.hold ^= s->alter;
+		i += many;
+	}
+}
+
 /* By how many each of a shift's lists, clocks, inputs and activity words, is shorter than N; and how many bytes are lent to be written. */
 static uint32_t cut[3];
 static size_t lent = sizeof ((struct bench *)0)->file;
 
+static int is_held(const char *what)
+{
+	return !strncmp(what, "held-", 5);
+}
+
+/* What goes before the part that is timed. */
+static void prepare(const char *what, const struct engine *e, const struct file *f, struct bench *b)
+{
+	if (strcmp(what, "reads"))
+		read_and_start(e, f, b);
+	if (is_held(what)) {
+		make_cycles(e, 0, BEFORE, b);
+		b->sum += e->hold(&b->chart, &b->run);
+	}
+}
+
 static void measure(const char *what, const struct engine *e, const struct file *f, uint32_t n, struct bench *b)
 {
-	if (!strcmp(what, "cycles")) {
-		read_and_start(e, f, b);
-		make_cycles(e, n, b);
-	} else if (!strcmp(what, "shift")) {
-		read_and_start(e, f, b);
-		b->sum += e->shift(&b->chart, &b->run, clocks, n - cut[0], inputs, n - cut[1], b->activities, n - cut[2], b->outputs,
+	uint32_t from = is_held(what) ? BEFORE : 0;
+	if (!strcmp(what, "cycles") || !strcmp(what, "held-cycles")) {
+		make_cycles(e, from, n, b);
+	} else if (!strcmp(what, "shift") || !strcmp(what, "held-shift")) {
+		b->sum += e->shift(&b->chart, &b->run, clocks + from, n - cut[0], inputs + from, n - cut[1], b->activities, n - cut[2], b->outputs,
 			TW_OUTPUTS + 4, &b->shifted);
+	} else if (!strcmp(what, "turned")) {
+		make_stretches(e, n, b);
 	} else if (!strcmp(what, "reads")) {
 		for (uint32_t i = 0; i < n; i++)
 			b->sum += e->read(f->bytes, f->size, &b->chart, &b->place);
 	} else if (!strcmp(what, "tests")) {
-		read_and_start(e, f, b);
 		for (uint32_t i = 0; i < n; i++)
 			b->sum += e->test(&b->chart);
 	} else if (!strcmp(what, "writes")) {
-		read_and_start(e, f, b);
 		for (uint32_t i = 0; i < n; i++)
 			b->sum += e->write(&b->chart, b->file, lent, &b->length);
 	} else {
@@ -336,10 +408,12 @@ static void measure(const char *what, const struct engine *e, const struct file 
 	}
 }
 
-/* What lies between the clock and the active steps is nobody's. */
+/* What lies between the clock and the active steps, and behind the hold mark, is nobody's. */
 static void even(struct tw_run *run)
 {
+	size_t behind = offsetof(struct tw_run, hold) + sizeof run->hold;
 	memset((uint8_t *)run + sizeof run->clock, 0, offsetof(struct tw_run, active) - sizeof run->clock);
+	memset((uint8_t *)run + behind, 0, sizeof *run - behind);
 }
 
 static int equal(const char *what, struct bench *proved, struct bench *c)
@@ -362,6 +436,8 @@ static int same(const char *what, const struct file *f, uint32_t n)
 	static struct bench proved, c;
 	blank(&proved);
 	blank(&c);
+	prepare(what, &PROVED, f, &proved);
+	prepare(what, &PLAIN, f, &c);
 	measure(what, &PROVED, f, n, &proved);
 	measure(what, &PLAIN, f, n, &c);
 	return equal(what, &proved, &c);
@@ -379,7 +455,7 @@ static int compare(uint32_t count)
 		if (k % 50 == 0)
 			some_inputs((uint32_t)any_word(), 1);
 		chart_at = any(sizeof (struct tw_chart));
-		run_at = any(sizeof (struct tw_run));
+		run_at = any(4) ? any(sizeof (struct tw_run)) : offsetof(struct tw_run, hold);
 		chart_by = any(8) ? 0 : (uint8_t)(1u << any(8));
 		run_by = any(8) ? 0 : (uint8_t)(1u << any(8));
 		/* an accepted chart's file is as long as it was */
@@ -387,8 +463,10 @@ static int compare(uint32_t count)
 		uint32_t n = any(8) ? any(60) : ROOM + any(2);
 		for (int i = 0; i < 3; i++)
 			cut[i] = any(20) ? 0 : any(n + 1);
-		if (!same("cycles", &f, any(60)) || !same("shift", &f, n) || !same("reads", &f, 1 + any(2)) || !same("tests", &f, any(3))
-			|| !same("writes", &f, 1 + any(2))) {
+		held_first = any(4) == 0;
+		some_stretches();
+		if (!same("cycles", &f, any(60)) || !same("shift", &f, n) || !same("turned", &f, any(200)) || !same("reads", &f, 1 + any(2))
+			|| !same("tests", &f, any(3)) || !same("writes", &f, 1 + any(2))) {
 			printf("chart %u\n", k);
 			return 1;
 		}
@@ -398,13 +476,13 @@ static int compare(uint32_t count)
 	return 0;
 }
 
-/* One run goes on and on; every other thousand of its cycles has jumps. */
+/* One run goes on and on, singly and in shifts, and the key is turned between; every other thousand of its cycles has jumps. */
 static int soak(uint32_t charts, uint32_t thousands)
 {
 	static struct file f;
 	static struct bench proved, c;
 	static const char *const named[] = { "small", "typical", "full", "waiting" };
-	uint64_t accepted = 0;
+	uint64_t accepted = 0, under_hold = 0;
 	for (uint32_t k = 0; k < charts; k++) {
 		if (k < sizeof named / sizeof *named)
 			chart_of(named[k], &f);
@@ -421,8 +499,9 @@ static int soak(uint32_t charts, uint32_t thousands)
 		int same_yet = equal("starts", &proved, &c);
 		for (uint32_t t = 0; t < thousands && same_yet; t++) {
 			some_inputs(proved.run.clock, t % 2);
-			make_cycles(&PROVED, 1000, &proved);
-			make_cycles(&PLAIN, 1000, &c);
+			some_stretches();
+			make_stretches(&PROVED, 1000, &proved);
+			make_stretches(&PLAIN, 1000, &c);
 			same_yet = equal("soaks", &proved, &c);
 		}
 		if (!same_yet) {
@@ -430,9 +509,10 @@ static int soak(uint32_t charts, uint32_t thousands)
 			return 1;
 		}
 		accepted += proved.accepted;
+		under_hold += proved.held;
 	}
-	printf("%u charts, %u thousand cycles on each, %llu accepted in all: after each thousand the same runs and outputs\n", charts, thousands,
-		(unsigned long long)accepted);
+	printf("%u charts, %u thousand cycles on each, %llu accepted in all, %llu of them under hold: after each thousand the same runs and outputs\n",
+		charts, thousands, (unsigned long long)accepted, (unsigned long long)under_hold);
 	return 0;
 }
 
@@ -450,6 +530,7 @@ static double time_of(const char *what, const struct engine *e, const struct fil
 	double best = 1e9;
 	for (int i = 0; i < 5; i++) {
 		blank(&b);
+		prepare(what, e, f, &b);
 		double began = seconds();
 		measure(what, e, f, n, &b);
 		double took = seconds() - began;
@@ -471,12 +552,12 @@ int main(int argc, char **argv)
 		return soak((uint32_t)strtoul(argv[3], NULL, 10), (uint32_t)strtoul(argv[4], NULL, 10));
 	}
 	if (argc == 5 && !strcmp(argv[1], "time")) {
-		static const char *const what[] = { "cycles", "shift", "reads", "tests", "writes" };
+		static const char *const what[] = { "cycles", "shift", "held-cycles", "held-shift", "reads", "tests", "writes" };
 		uint32_t n = (uint32_t)strtoul(argv[4], NULL, 10);
 		state = strtoull(argv[3], NULL, 10);
 		chart_of(argv[2], &f);
 		some_inputs((uint32_t)any_word(), 0);
-		for (int i = 0; i < 5; i++) {
+		for (size_t i = 0; i < sizeof what / sizeof *what; i++) {
 			double proved = time_of(what[i], &PROVED, &f, n), c = time_of(what[i], &PLAIN, &f, n);
 			printf("%s %.1f %.1f %.2f\n", what[i], 1e9 * proved / n, 1e9 * c / n, proved / c);
 		}
@@ -488,10 +569,13 @@ int main(int argc, char **argv)
 		state = strtoull(argv[4], NULL, 10);
 		chart_of(argv[2], &f);
 		some_inputs((uint32_t)any_word(), 0);
+		some_stretches();
 		if (!strcmp(argv[3], "both"))
 			return !same(argv[1], &f, n);
+		const struct engine *e = strcmp(argv[3], "proved") ? &PLAIN : &PROVED;
 		blank(&b);
-		measure(argv[1], strcmp(argv[3], "proved") ? &PLAIN : &PROVED, &f, n, &b);
+		prepare(argv[1], e, &f, &b);
+		measure(argv[1], e, &f, n, &b);
 		printf("%llu\n", (unsigned long long)b.sum);
 		return 0;
 	}
