@@ -1,6 +1,6 @@
 -- The hold key (document 02, request vii): what a cycle under hold does, and what the mark is to a run.
-use Prim.Native.Nat.{ℕ, _+_, _≤_, _<_, min}
-use mathlib.Core.Bool.{Bool, true, false, _&&_, _||_, not, cond}
+use Prim.Native.Nat.{ℕ, _≤_, _<_}
+use mathlib.Core.Bool.{Bool, true, false, _&&_, _||_, cond}
 use mathlib.Core.List.{List}
 use mathlib.Core.Path.{_≡_, refl, sym, ap, ap₂, _∙_}
 use native.Mathlib.Nat.{lt-of-lt-of-le}
@@ -14,7 +14,7 @@ use Rattle.sets.proofs.Members.{has-zero, has-collect}
 use Rattle.sets.proofs.Below.{has-union, has-minus}
 use Rattle.chart.specs.declared.chart.Chart.{Chart}
 use Rattle.chart.proofs.held.Sound.{Sound, sound}
-use Rattle.choice.specs.Choice.{noneTaken, reasonAt, held}
+use Rattle.choice.specs.Choice.{noneTaken, held}
 use Rattle.choice.proofs.Laws.{reasons-at}
 use Rattle.acting.specs.Acting.{keptCount, request, requestOf, asked, acted}
 use Rattle.acting.specs.declared.Steps.{Steps}

@@ -4,21 +4,21 @@ use Prim.Native.Nat.{ℕ, zero, suc, _≤_, _<_}
 use mathlib.Core.Bool.{Bool, true, false, cond, _&&_, _||_, not}
 use mathlib.Core.List.{List}
 use mathlib.Core.Logic.{_⊎_, inl, inr}
-use mathlib.Core.Path.{_≡_, refl, sym, ap, subst, _∙_}
+use mathlib.Core.Path.{_≡_, refl, sym, subst, _∙_}
 use native.Mathlib.Nat.{lt-of-lt-of-le}
 use native.Mathlib.Omega.{arith}
 use lib.ListN.{getD, getD-replicate}
-use lib.Dec.{eqb, ltb, leb}
-use borrow.Author.Tests.{leb-true, leb-false, lt-ltb, le-ltb, eqb-true, eqb-false, eq-eqb}
+use lib.Dec.{eqb, leb}
+use borrow.Author.Tests.{leb-true, leb-false, lt-ltb, le-ltb, eqb-true, eqb-false}
 use Rattle.sets.specs.Loops.{all, orElse, turns}
-use Rattle.sets.specs.Sets.{has, Within, Apart, insert}
+use Rattle.sets.specs.Sets.{has, Within, Apart}
 use Rattle.sets.proofs.Loops.{all-true, and-yes, or-true, or-false}
 use Rattle.sets.proofs.Members.{has-zero}
 use Rattle.sets.proofs.Below.{within-has, apart-has, never}
 use Rattle.fields.specs.Fields.{unless}
 use Rattle.chart.specs.declared.chart.Chart.{Chart}
 use Rattle.chart.proofs.held.Sound.{sound}
-use Rattle.choice.specs.Choice.{ripe, reason, takes, choosingAt, noneTaken, chosen, reasonAt, held, chosenUnder, reasonUnder, reasonsOf}
+use Rattle.choice.specs.Choice.{ripe, reason, takes, choosingAt, noneTaken, chosen, reasonAt, held, chosenUnder, reasonUnder}
 use Rattle.choice.specs.declared.Choice.{Choice}
 use Rattle.choice.proofs.Laws.{taken-as-before, reason-under-most, reasons-at}
 use Rattle.run.specs.declared.run.Run.{Run}

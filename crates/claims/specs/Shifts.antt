@@ -32,7 +32,6 @@ use Rattle.cycle.proofs.cycling.Laws.{passed as ready-passed}
 use Rattle.cycle.proofs.cycling.Tested.{outputs-long}
 use Rattle.cycle.specs.Calling.{Calls, called, onward, singly}
 use Rattle.shift.specs.Shifting.{Done, answerOf, doneOf, listsFit, shiftCode, shiftOf}
-use Rattle.shift.specs.declared.shifting.Shifted.{Shifted}
 use Rattle.shift.proofs.shifting.Laws.{before-any, fit}
 use Rattle.tally.specs.Tallying.{tallyOf}
 use Rattle.claims.specs.Answers.{oneOf, startNumbers}

@@ -1,5 +1,5 @@
 -- By the number; and a test is 1 or 0.
-use mathlib.Core.Bool.{Bool, true, false, cond}
+use mathlib.Core.Bool.{Bool, true, false}
 use mathlib.Core.Path.{_≡_, refl}
 use mir.Val.{boolByte}
 use borrow.Author.Needs.{needs}
