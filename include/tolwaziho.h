@@ -22,7 +22,7 @@ extern "C" {
 enum { TW_STEPS = 64, TW_ACTIONS = 32, TW_TRANSITIONS = 64, TW_BLOCKS = 256, TW_CASES = 64, TW_OUTPUTS = 32 };
 
 enum {
-	TW_FILE = 6436,		/* bytes of the longest chart file */
+	TW_FILE = 6441,		/* bytes of the longest chart file */
 	TW_SHIFT = 4096,	/* cycles of the longest shift */
 	TW_LONGEST = 86400000,	/* ms of the longest wait or duration; counters and timers stop there */
 	TW_LATEST = 60000	/* ms between two calls, at most */
@@ -34,8 +34,8 @@ enum tw_code {
 	TW_CUT = 1,		/* the file ends within a record, or without an end record */
 	TW_BAD_KIND = 2,	/* an unknown kind of record, or one out of order */
 	TW_BAD_LENGTH = 3,	/* a record's length is not that of its kind */
-	TW_TOO_MANY = 4,	/* more of a kind than the limits above */
-	TW_BAD_FIELD = 5,	/* a field outside its range */
+	TW_TOO_MANY = 4,	/* more of a kind than the limits above, or a second edition record */
+	TW_BAD_FIELD = 5,	/* a field outside its range, or an edition that there is not */
 	TW_BAD_STEPS = 6,	/* a transition without source or target, or with a step that is both */
 	TW_BAD_SIGNALS = 7,	/* a signal in both on and off */
 	TW_TIMED_TWICE = 8,	/* two timed blocks for one action */
@@ -58,7 +58,7 @@ enum tw_reason {
 	TW_USED = 2,		/* a source is used by an earlier transition */
 	TW_SIGNAL = 3,		/* a signal in on is 0, or one in off is 1 */
 	TW_WAIT = 4,		/* a source has not been active for the wait */
-	TW_OCCUPIED = 5,	/* a target is active */
+	TW_OCCUPIED = 5,	/* a target is active; in edition 1 only, as the next */
 	TW_CLAIMED = 6,		/* a target is claimed by an earlier transition */
 	TW_HOLD = 7		/* the run is held; this comes before all the others */
 };
@@ -67,7 +67,8 @@ enum tw_qualifier { TW_N, TW_R, TW_S, TW_L, TW_D, TW_P, TW_SD, TW_DS, TW_SL, TW_
 
 /* A set is a 64-bit word: bit k is number k. Signals 0 to 31 are the inputs, signal 32 + k is the activity of action k as the call before left it. */
 
-/* A chart: five counts, and tables of which the entries below the count are the chart's and the others play no part. */
+/* A chart: five counts, tables of which the entries below the count are the chart's and the others play no part, and the edition of the stepping rule.
+   In edition 2 targets are not tested, and a step both left and entered stays active. */
 struct tw_chart {
 	size_t steps, actions, transitions, blocks, cases;
 	uint8_t initial[TW_STEPS];					/* 1 initial, 0 not */
@@ -79,6 +80,7 @@ struct tw_chart {
 	uint8_t blockstep[TW_BLOCKS], blockaction[TW_BLOCKS], qualifier[TW_BLOCKS];
 	uint32_t duration[TW_BLOCKS];					/* ms; 0 where the qualifier is not timed */
 	uint8_t casestep[TW_CASES], signal[TW_CASES], expected[TW_CASES];
+	uint8_t edition;						/* 1 or 2 */
 };
 
 /* A run of a chart. */
@@ -97,7 +99,7 @@ struct tw_run {
 enum tw_code tw_read(const uint8_t *bytes, size_t size, struct tw_chart *chart, size_t *place);
 
 /* Tests a chart that may have been altered, and writes nothing. Refused by 4; then by 5, 6 or 7 of the first bad entry, kind after kind; then by
-   9, 8. Every call below that takes a chart tests it so, by "the chart's numbers". */
+   the edition's 5; then by 9, 8. Every call below that takes a chart tests it so, by "the chart's numbers". */
 enum tw_code tw_test(const struct tw_chart *chart);
 
 /* Writes a chart as a file into so many lent bytes. Accepted: the file's length; the bytes behind it stay. Refused by the chart's numbers, 17:
@@ -150,7 +152,7 @@ struct tw_reader {
 };
 
 struct tw_record {
-	uint16_t kind;		/* 1 step, 2 action, 3 transition, 4 block, 5 case */
+	uint16_t kind;		/* 1 step, 2 action, 3 transition, 4 block, 5 case, 6 edition */
 	size_t place, length;	/* of the body */
 };
 

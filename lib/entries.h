@@ -7,12 +7,12 @@
 #include <stddef.h>
 #include <stdint.h>
 
-/* A chart's counts and tables in the order of struct tw_chart, lent to be read. */
+/* A chart's counts, tables and edition in the order of struct tw_chart, lent to be read. */
 #define CHART \
 	size_t steps, size_t actions, size_t transitions, size_t blocks, size_t cases, const uint8_t initial[64], const uint8_t output[32], \
 	const int32_t value[32], const uint64_t sources[64], const uint64_t targets[64], const uint64_t on[64], const uint64_t off[64], \
 	const uint32_t wait[64], const uint8_t blockstep[256], const uint8_t blockaction[256], const uint8_t qualifier[256], \
-	const uint32_t duration[256], const uint8_t casestep[64], const uint8_t signal[64], const uint8_t expected[64]
+	const uint32_t duration[256], const uint8_t casestep[64], const uint8_t signal[64], const uint8_t expected[64], uint8_t edition
 
 /* A run in the order of struct tw_run, lent to be moved on. */
 #define RUN \
@@ -23,7 +23,7 @@ uint8_t tolwaziho_next_record(const uint8_t *bytes, size_t size, size_t *at, uin
 uint8_t tolwaziho_read(const uint8_t *bytes, size_t size, size_t *steps, size_t *actions, size_t *transitions, size_t *blocks, size_t *cases,
 	uint8_t initial[64], uint8_t output[32], int32_t value[32], uint64_t sources[64], uint64_t targets[64], uint64_t on[64], uint64_t off[64],
 	uint32_t wait[64], uint8_t blockstep[256], uint8_t blockaction[256], uint8_t qualifier[256], uint32_t duration[256],
-	uint8_t casestep[64], uint8_t signal[64], uint8_t expected[64], size_t *place);
+	uint8_t casestep[64], uint8_t signal[64], uint8_t expected[64], uint8_t *edition, size_t *place);
 uint8_t tolwaziho_test(CHART);
 uint8_t tolwaziho_write(CHART, uint8_t *bytes, size_t size, size_t *length);
 uint8_t tolwaziho_start(CHART, RUN, uint32_t new, int32_t *outputs, size_t lent);

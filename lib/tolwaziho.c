@@ -8,7 +8,7 @@
 #define TABLES_OF(c) \
 	(c)->initial, (c)->output, (c)->value, (c)->sources, (c)->targets, (c)->on, (c)->off, (c)->wait, (c)->blockstep, (c)->blockaction, \
 	(c)->qualifier, (c)->duration, (c)->casestep, (c)->signal, (c)->expected
-#define CHART_OF(c) (c)->steps, (c)->actions, (c)->transitions, (c)->blocks, (c)->cases, TABLES_OF(c)
+#define CHART_OF(c) (c)->steps, (c)->actions, (c)->transitions, (c)->blocks, (c)->cases, TABLES_OF(c), (c)->edition
 
 /* A run's as RUN has them. */
 #define RUN_OF(r) \
@@ -16,7 +16,7 @@
 
 enum tw_code tw_read(const uint8_t *bytes, size_t size, struct tw_chart *c, size_t *place)
 {
-	return tolwaziho_read(bytes, size, &c->steps, &c->actions, &c->transitions, &c->blocks, &c->cases, TABLES_OF(c), place);
+	return tolwaziho_read(bytes, size, &c->steps, &c->actions, &c->transitions, &c->blocks, &c->cases, TABLES_OF(c), &c->edition, place);
 }
 
 enum tw_code tw_test(const struct tw_chart *chart)

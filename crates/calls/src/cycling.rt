@@ -16,6 +16,7 @@ pub fn cycle(chart: Chart, run: Run, clock: u32, inputs: u32, outputs: &mut [i32
     let words = run::words_of(run);
     let mut reasons = [0u8; 64];
     passes::explain(
+        chart.edition,
         chart.transitions,
         &chart.sources,
         &chart.targets,
@@ -52,6 +53,7 @@ pub fn cycle(chart: Chart, run: Run, clock: u32, inputs: u32, outputs: &mut [i32
         &chart.casestep,
         &chart.signal,
         &chart.expected,
+        chart.edition,
         words,
         &mut counts,
         &mut times,

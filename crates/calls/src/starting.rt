@@ -53,10 +53,11 @@ pub fn start_on<'a>(
     casestep: &'a [u8; 64],
     signal: &'a [u8; 64],
     expected: &'a [u8; 64],
+    edition: u8,
     clock: u32,
     outputs: &mut [i32],
 ) -> Started
-    ensures { λ r. ⌜ (begun r, now (outputs .exit)) ≡ startOn (chartOf steps actions transitions blocks cases (now (initial .entry)) (now (output .entry)) (now (value .entry)) (now (sources .entry)) (now (targets .entry)) (now (on .entry)) (now (off .entry)) (now (wait .entry)) (now (blockstep .entry)) (now (blockaction .entry)) (now (qualifier .entry)) (now (duration .entry)) (now (casestep .entry)) (now (signal .entry)) (now (expected .entry))) clock (now (outputs .entry)) ⌝ }
+    ensures { λ r. ⌜ (begun r, now (outputs .exit)) ≡ startOn (chartOf steps actions transitions blocks cases (now (initial .entry)) (now (output .entry)) (now (value .entry)) (now (sources .entry)) (now (targets .entry)) (now (on .entry)) (now (off .entry)) (now (wait .entry)) (now (blockstep .entry)) (now (blockaction .entry)) (now (qualifier .entry)) (now (duration .entry)) (now (casestep .entry)) (now (signal .entry)) (now (expected .entry)) edition) clock (now (outputs .entry)) ⌝ }
 {
     if outputs.len() < 32 {
         return refused(FEW_OUTPUTS);
@@ -81,6 +82,7 @@ pub fn start_on<'a>(
         casestep,
         signal,
         expected,
+        edition,
     );
     if code != 0 {
         return refused(code);
@@ -147,6 +149,7 @@ pub fn start(chart: Chart, clock: u32, outputs: &mut [i32]) -> Cycled
         &chart.casestep,
         &chart.signal,
         &chart.expected,
+        chart.edition,
         clock,
         outputs,
     );

@@ -16,9 +16,9 @@ index-of-unique x r q e f = one-answer (e .0) (f .0)
 pub chart-code-unique : (c : Chart) (r q : ℕ) → r ≡ chartCode c → q ≡ chartCode c → r ≡ q
 chart-code-unique c r q = one-answer
 
-pub held-code-unique : (s a t b c : ℕ) (i o f g on off w bs ba bq bd cs cn ce : List ℕ) (r q : ℕ)
-    → r ≡ heldCode s a t b c i o f g on off w bs ba bq bd cs cn ce → q ≡ heldCode s a t b c i o f g on off w bs ba bq bd cs cn ce → r ≡ q
-held-code-unique s a t b c i o f g on off w bs ba bq bd cs cn ce r q = one-answer
+pub held-code-unique : (s a t b c : ℕ) (i o f g on off w bs ba bq bd cs cn ce : List ℕ) (ed r q : ℕ)
+    → r ≡ heldCode s a t b c i o f g on off w bs ba bq bd cs cn ce ed → q ≡ heldCode s a t b c i o f g on off w bs ba bq bd cs cn ce ed → r ≡ q
+held-code-unique s a t b c i o f g on off w bs ba bq bd cs cn ce ed r q = one-answer
 
 pub closing-code-unique : (s b : ℕ) (i ba bq : List ℕ) (r q : ℕ) → r ≡ closingCode s b i ba bq → q ≡ closingCode s b i ba bq → r ≡ q
 closing-code-unique s b i ba bq r q = one-answer

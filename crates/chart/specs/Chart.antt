@@ -6,8 +6,8 @@ use lib.ListN.{set, replicate}
 use Rattle.chart.specs.declared.chart.Chart.{Chart}
 
 -- the chart of lent tables
-abbrev pub chartOf : ℕ → ℕ → ℕ → ℕ → ℕ → List ℕ → List ℕ → List ℤ → List ℕ → List ℕ → List ℕ → List ℕ → List ℕ → List ℕ → List ℕ → List ℕ → List ℕ → List ℕ → List ℕ → List ℕ → Chart
-chartOf steps actions transitions blocks cases initial output value sources targets on off wait blockstep blockaction qualifier duration casestep signal expected = record {
+abbrev pub chartOf : ℕ → ℕ → ℕ → ℕ → ℕ → List ℕ → List ℕ → List ℤ → List ℕ → List ℕ → List ℕ → List ℕ → List ℕ → List ℕ → List ℕ → List ℕ → List ℕ → List ℕ → List ℕ → List ℕ → ℕ → Chart
+chartOf steps actions transitions blocks cases initial output value sources targets on off wait blockstep blockaction qualifier duration casestep signal expected edition = record {
   steps = steps;
   actions = actions;
   transitions = transitions;
@@ -28,10 +28,12 @@ chartOf steps actions transitions blocks cases initial output value sources targ
   casestep = casestep;
   signal = signal;
   expected = expected;
+  edition = edition;
 }
 
-abbrev pub noChart : Chart
-noChart = record {
+-- of no record, in an edition: what reading begins with, "absent means edition 1" (document 02, request viii)
+abbrev pub emptyChart : ℕ → Chart
+emptyChart edition = record {
   steps = 0;
   actions = 0;
   transitions = 0;
@@ -52,7 +54,11 @@ noChart = record {
   casestep = replicate 64 0;
   signal = replicate 64 0;
   expected = replicate 64 0;
+  edition = edition;
 }
+
+abbrev pub noChart : Chart
+noChart = emptyChart 0
 
 abbrev pub withStep : Chart → ℕ → Chart
 withStep c initial = record {
@@ -76,6 +82,7 @@ withStep c initial = record {
   casestep = c .casestep;
   signal = c .signal;
   expected = c .expected;
+  edition = c .edition;
 }
 
 abbrev pub withAction : Chart → ℕ → ℤ → Chart
@@ -100,6 +107,7 @@ withAction c output value = record {
   casestep = c .casestep;
   signal = c .signal;
   expected = c .expected;
+  edition = c .edition;
 }
 
 abbrev pub withTransition : Chart → ℕ → ℕ → ℕ → ℕ → ℕ → Chart
@@ -124,6 +132,7 @@ withTransition c sources targets on off wait = record {
   casestep = c .casestep;
   signal = c .signal;
   expected = c .expected;
+  edition = c .edition;
 }
 
 abbrev pub withBlock : Chart → ℕ → ℕ → ℕ → ℕ → Chart
@@ -148,6 +157,7 @@ withBlock c step action qualifier duration = record {
   casestep = c .casestep;
   signal = c .signal;
   expected = c .expected;
+  edition = c .edition;
 }
 
 abbrev pub withCase : Chart → ℕ → ℕ → ℕ → Chart
@@ -172,4 +182,30 @@ withCase c step signal expected = record {
   casestep = set (c .casestep) (c .cases) step;
   signal = set (c .signal) (c .cases) signal;
   expected = set (c .expected) (c .cases) expected;
+  edition = c .edition;
+}
+
+abbrev pub withEdition : Chart → ℕ → Chart
+withEdition c edition = record {
+  steps = c .steps;
+  actions = c .actions;
+  transitions = c .transitions;
+  blocks = c .blocks;
+  cases = c .cases;
+  initial = c .initial;
+  output = c .output;
+  value = c .value;
+  sources = c .sources;
+  targets = c .targets;
+  on = c .on;
+  off = c .off;
+  wait = c .wait;
+  blockstep = c .blockstep;
+  blockaction = c .blockaction;
+  qualifier = c .qualifier;
+  duration = c .duration;
+  casestep = c .casestep;
+  signal = c .signal;
+  expected = c .expected;
+  edition = edition;
 }

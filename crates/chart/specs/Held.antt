@@ -1,5 +1,5 @@
 -- "A chart held by a caller may have been altered. Every call tests it again: 4, then records by kind with 5, 6, 7, then 9, 8.
--- Entries beyond a count play no part."
+-- Entries beyond a count play no part." Document 02, request (viii): "5 for another edition byte, tested in a held chart after the cases".
 use Prim.Native.Nat.{ℕ, zero, suc, _+_, _-_, _<_, max}
 use mathlib.Core.Path.{_≡_}
 use mathlib.Core.List.{List}
@@ -8,7 +8,7 @@ use lib.ListN.{length, getD}
 use lib.Dec.{leb, ltb, eqb}
 use Rattle.sets.specs.Loops.{some, orElse, firstCode}
 use Rattle.sets.specs.Sets.{collect}
-use Rattle.fields.specs.Fields.{timed, unless, stepFits, actionFits, transitionCode, blockNames, durationFits, blockFits, caseFits}
+use Rattle.fields.specs.Fields.{timed, unless, stepFits, actionFits, transitionCode, blockNames, durationFits, blockFits, caseFits, editionFits}
 use Rattle.chart.specs.declared.chart.Chart.{Chart}
 
 -- "1 to 64 steps, 0 to 32 actions, 0 to 64 transitions, 0 to 256 blocks and 0 to 64 cases"; no step at all is refusal 9
@@ -104,16 +104,17 @@ abbrev pub closingCode : ℕ → ℕ → List ℕ → List ℕ → List ℕ → 
 closingCode steps blocks initial action qualifier =
     orElse (unless (someInitial steps initial) 9) (unless (not (timedTwice blocks action qualifier)) 8)
 
-unfoldable pub heldCode : ℕ → ℕ → ℕ → ℕ → ℕ → List ℕ → List ℕ → List ℕ → List ℕ → List ℕ → List ℕ → List ℕ → List ℕ → List ℕ → List ℕ → List ℕ → List ℕ → List ℕ → List ℕ → ℕ
-heldCode steps actions transitions blocks cases initial output sources targets on off wait blockstep blockaction qualifier duration casestep signal expected =
+unfoldable pub heldCode : ℕ → ℕ → ℕ → ℕ → ℕ → List ℕ → List ℕ → List ℕ → List ℕ → List ℕ → List ℕ → List ℕ → List ℕ → List ℕ → List ℕ → List ℕ → List ℕ → List ℕ → List ℕ → ℕ → ℕ
+heldCode steps actions transitions blocks cases initial output sources targets on off wait blockstep blockaction qualifier duration casestep signal expected edition =
     orElse (unless (limitsFit steps actions transitions blocks cases) 4)
     (orElse (stepsCode steps initial)
     (orElse (actionsCode actions output)
     (orElse (transitionsCode transitions steps actions sources targets on off wait)
     (orElse (blocksCode blocks steps actions blockstep blockaction qualifier duration)
     (orElse (casesCode cases steps actions casestep signal expected)
-    (closingCode steps blocks initial blockaction qualifier))))))
+    (orElse (unless (editionFits edition) 5)
+    (closingCode steps blocks initial blockaction qualifier)))))))
 
 abbrev pub chartCode : Chart → ℕ
 chartCode c =
-    heldCode (c .steps) (c .actions) (c .transitions) (c .blocks) (c .cases) (c .initial) (c .output) (c .sources) (c .targets) (c .on) (c .off) (c .wait) (c .blockstep) (c .blockaction) (c .qualifier) (c .duration) (c .casestep) (c .signal) (c .expected)
+    heldCode (c .steps) (c .actions) (c .transitions) (c .blocks) (c .cases) (c .initial) (c .output) (c .sources) (c .targets) (c .on) (c .off) (c .wait) (c .blockstep) (c .blockaction) (c .qualifier) (c .duration) (c .casestep) (c .signal) (c .expected) (c .edition)

@@ -1,4 +1,4 @@
-// A chart as it is held: five counts, and a table for each field of each kind, with the values of the file.
+// A chart as it is held: five counts, a table for each field of each kind, with the values of the file, and its edition (document 02, request viii).
 ghost use mathlib.Core.Path.{_≡_};
 ghost use Prim.Native.Nat.{_<_, min};
 
@@ -23,6 +23,7 @@ pub struct Chart {
     pub casestep: [u8; 64],
     pub signal: [u8; 64],
     pub expected: [u8; 64],
+    pub edition: u8,
 }
 
 // A count, no more than its table has.

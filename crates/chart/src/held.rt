@@ -1,4 +1,4 @@
-// The test of a chart that a caller held and may have altered: 4, then records by kind with 5, 6, 7, then 9, 8.
+// The test of a chart that a caller held and may have altered: 4, then records by kind with 5, 6, 7, the edition's 5, then 9, 8.
 // Every call of the engine makes it, so its passes have no branch on what an entry is: only where a transition is refused are they gone through
 // again, for the first number, and blocks of which none is timed are passed over by sixteen.
 ghost use mathlib.Core.Path.{_≡_};
@@ -338,8 +338,9 @@ pub fn held_code<'a>(
     casestep: &'a [u8; 64],
     signal: &'a [u8; 64],
     expected: &'a [u8; 64],
+    edition: u8,
 ) -> u8
-    ensures { λ r. ⌜ r ≡ heldCode steps actions transitions blocks cases (now (initial .entry)) (now (output .entry)) (now (sources .entry)) (now (targets .entry)) (now (on .entry)) (now (off .entry)) (now (wait .entry)) (now (blockstep .entry)) (now (blockaction .entry)) (now (qualifier .entry)) (now (duration .entry)) (now (casestep .entry)) (now (signal .entry)) (now (expected .entry)) ⌝ }
+    ensures { λ r. ⌜ r ≡ heldCode steps actions transitions blocks cases (now (initial .entry)) (now (output .entry)) (now (sources .entry)) (now (targets .entry)) (now (on .entry)) (now (off .entry)) (now (wait .entry)) (now (blockstep .entry)) (now (blockaction .entry)) (now (qualifier .entry)) (now (duration .entry)) (now (casestep .entry)) (now (signal .entry)) (now (expected .entry)) edition ⌝ }
 {
     if !limits_fit(steps, actions, transitions, blocks, cases) {
         return TOO_MANY;
@@ -358,8 +359,9 @@ pub fn held_code<'a>(
         duration,
     );
     let c = cases_code(cases, steps, actions, casestep, signal, expected);
+    let e = fields::unless(fields::edition_fits(edition), BAD_FIELD);
     let z = closing(mark == 1, timed_twice(blocks, blockaction, qualifier));
-    let later = fields::or_else(b, fields::or_else(c, z));
+    let later = fields::or_else(b, fields::or_else(c, fields::or_else(e, z)));
     fields::or_else(s, fields::or_else(a, fields::or_else(t, later)))
 }
 
@@ -386,5 +388,6 @@ pub fn chart_code(chart: Chart) -> u8
         &chart.casestep,
         &chart.signal,
         &chart.expected,
+        chart.edition,
     )
 }

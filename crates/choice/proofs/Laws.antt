@@ -1,5 +1,5 @@
--- Reasons and what is taken; and "A target so tested lets a step left in this cycle be entered in it": not here. What is left was active at the
--- cycle's beginning, and what is entered was not.
+-- Reasons and what is taken; and "A target so tested lets a step left in this cycle be entered in it": not in the first edition. What is left was
+-- active at the cycle's beginning, and there what is entered was not.
 use Prim.Native.Nat.{ℕ, zero, suc, _+_, _≤_, _<_, min}
 use mathlib.Core.List.{List}
 use mathlib.Core.Bool.{Bool, true, false, _&&_, not, cond}
@@ -11,11 +11,11 @@ use lib.Dec.{ltb, eqb}
 use borrow.Author.Tests.{ltb-true, lt-ltb, le-ltb, eqb-true, eqb-false}
 use Rattle.sets.specs.Loops.{orElse, table, turns}
 use Rattle.sets.specs.Sets.{has, Within, Apart}
-use Rattle.sets.proofs.Loops.{bool-eq, and-true, turns-start, turns-more, length-table, getD-table, is-table}
+use Rattle.sets.proofs.Loops.{bool-eq, and-true, turns-start, turns-more, length-table, getD-table, is-table, true-all}
 use Rattle.sets.proofs.Members.{has-zero}
 use Rattle.sets.proofs.Below.{has-union, within-has, apart-has, either, never}
-use Rattle.fields.specs.Fields.{unless}
-use Rattle.choice.specs.Choice.{ripe, reason, takes, choosingAt, noneTaken, chosen, reasonAt, held, reasonUnder, reasonsOf, heldReasons}
+use Rattle.fields.specs.Fields.{unless, second}
+use Rattle.choice.specs.Choice.{ripe, reason, tested, takes, choosingAt, noneTaken, chosen, reasonAt, held, reasonUnder, reasonsOf, heldReasons}
 use Rattle.choice.specs.declared.Choice.{Choice}
 
 -- ---- a reason is 0 exactly if every test holds
@@ -156,12 +156,12 @@ module _ (why : ℕ → ℕ) where
   all-told n t l e h =
       e ∙ told-are n (told t) (told-long t) (λ k m. told-at t k m ∙ ap (λ (b : Bool). cond b (why k) 0) (ltb-same k t n (λ x. omega arith) (λ x. omega arith)))
 
-module _ (hold : ℕ) (sources targets on off wait counts : List ℕ) (active signals : ℕ) where
+module _ (hold edition : ℕ) (sources targets on off wait counts : List ℕ) (active signals : ℕ) where
   abbrev reasons : ℕ → List ℕ
-  reasons n = reasonsOf hold n sources targets on off wait counts active signals
+  reasons n = reasonsOf hold edition n sources targets on off wait counts active signals
 
   abbrev why : ℕ → ℕ
-  why t = reasonUnder hold (reasonAt sources targets on off wait counts active signals t)
+  why t = reasonUnder hold (reasonAt edition sources targets on off wait counts active signals t)
 
   pub reasons-at : (n k : ℕ) → k < 64 → getD (reasons n) k 0 ≡ cond (ltb k n) (why k) 0
   unfolding reasonsOf
@@ -171,7 +171,7 @@ module _ (hold : ℕ) (sources targets on off wait counts : List ℕ) (active si
   reasons-most n k l = rw (reasons-at n k l) (go (ltb k n))
     where
       go : (b : Bool) → cond b (why k) 0 ≤ 7
-      go true = reason-under-most hold (chosen k sources targets on off wait counts active signals) _ _ _ _ _ counts active signals
+      go true = reason-under-most hold (chosen edition k sources targets on off wait counts active signals) _ _ _ _ _ counts active signals
       go false = omega arith
 
   -- held or not
@@ -179,20 +179,20 @@ module _ (hold : ℕ) (sources targets on off wait counts : List ℕ) (active si
   unfolding reasonsOf heldReasons
   all-held n h = rw h
 
-  pub none-held : (n : ℕ) → held hold ≡ false → reasonsOf 0 n sources targets on off wait counts active signals ≡ reasons n
+  pub none-held : (n : ℕ) → held hold ≡ false → reasonsOf 0 edition n sources targets on off wait counts active signals ≡ reasons n
   unfolding reasonsOf
   none-held n h = rw h
 
 -- of a run that is not held, transition after transition
-module _ (sources targets on off wait counts : List ℕ) (active signals : ℕ) where
+module _ (edition : ℕ) (sources targets on off wait counts : List ℕ) (active signals : ℕ) where
   abbrev taken : ℕ → Choice
-  taken n = chosen n sources targets on off wait counts active signals
+  taken n = chosen edition n sources targets on off wait counts active signals
 
   abbrev free : ℕ → List ℕ
-  free n = reasonsOf 0 n sources targets on off wait counts active signals
+  free n = reasonsOf 0 edition n sources targets on off wait counts active signals
 
   abbrev freely : ℕ → ℕ
-  freely t = reasonAt sources targets on off wait counts active signals t
+  freely t = reasonAt edition sources targets on off wait counts active signals t
 
   pub none-explained : (noneTaken ≡ taken 0) × (replicate 64 0 ≡ free 0)
   unfolding chosen reasonsOf
@@ -200,12 +200,12 @@ module _ (sources targets on off wait counts : List ℕ) (active signals : ℕ) 
 
   -- transition t, after those before it
   pub one-explained : (t v : ℕ) (ch next : Choice) (l : List ℕ) → ch ≡ taken t → l ≡ free t → t < 64
-      → v ≡ reason ch (getD sources t 0) (getD targets t 0) (getD on t 0) (getD off t 0) (getD wait t 0) counts active signals
+      → v ≡ reason ch (getD sources t 0) (tested edition (getD targets t 0)) (getD on t 0) (getD off t 0) (getD wait t 0) counts active signals
       → next ≡ cond (eqb v 0) (takes ch t (getD sources t 0) (getD targets t 0)) ch → (next ≡ taken (t + 1)) × (set l t v ≡ free (t + 1))
   unfolding chosen reasonsOf
   one-explained t v ch next l e f m h g = (
     turns-more _ _ t ch next e (g ∙ ap (λ (x : ℕ). cond (eqb x 0) (takes ch t (getD sources t 0) (getD targets t 0)) ch) h),
-    one-told freely t v l f m (h ∙ ap (λ (x : Choice). reason x (getD sources t 0) (getD targets t 0) (getD on t 0) (getD off t 0) (getD wait t 0) counts active signals) e),
+    one-told freely t v l f m (h ∙ ap (λ (x : Choice). reason x (getD sources t 0) (tested edition (getD targets t 0)) (getD on t 0) (getD off t 0) (getD wait t 0) counts active signals) e),
   )
 
   pub all-explained : (n t : ℕ) (l : List ℕ) → l ≡ free t → t ≡ min n 64 → l ≡ free n
@@ -225,15 +225,42 @@ pub every-held : (n t : ℕ) (l : List ℕ) → l ≡ heldReasons t → t ≡ mi
 unfolding heldReasons
 every-held n t l e h = all-told (λ t. 7) n t l e h
 
+-- ---- the two editions
+
+-- in the first, all targets are tested
+pub first-tests : (edition targets : ℕ) → second edition ≡ false → tested edition targets ≡ targets
+first-tests edition targets e = rw e
+
+-- in the second none is, so that "a target occupied" and "a target claimed by an earlier one" are no reasons: the last is the wait's
+pub second-reason : (edition : ℕ) (ch : Choice) (s t on off w : ℕ) (counts : List ℕ) (active signals : ℕ) → second edition ≡ true
+    → reason ch s (tested edition t) on off w counts active signals ≤ 4
+unfolding reason
+second-reason edition ch s t on off w counts active signals e =
+    rw (e, nothing-apart active, nothing-apart (ch .claimed)) (first-four (Within s active) (Apart s (ch .left)) (Within on signals && Apart off signals) (ripe w s counts))
+  where
+    nothing-apart : (a : ℕ) → Apart 0 a ≡ true
+    nothing-apart a = true-all (λ k. not (has 0 k && has a k)) 64 (λ k l. rw (has-zero k))
+
+    first-four : (a b d r : Bool) → orElse (unless a 1) (orElse (unless b 2) (orElse (unless d 3) (orElse (unless r 4) 0))) ≤ 4
+    first-four false b d r = omega arith
+    first-four true false d r = omega arith
+    first-four true true false r = omega arith
+    first-four true true true false = omega arith
+    first-four true true true true = omega arith
+
 -- ---- left and entered
 
-record Fair (active k : ℕ) (ch : Choice) : Type 0 where
+-- what is left was active at the cycle's beginning; in the first edition, what is a target was not
+record Fair (edition active k : ℕ) (ch : Choice) : Type 0 where
   left : has (ch .left) k ≡ true → has active k ≡ true
-  claimed : has (ch .claimed) k ≡ true → has active k ≡ false
+  claimed : second edition ≡ false → has (ch .claimed) k ≡ true → has active k ≡ false
 
-module _ (sources targets on off wait counts : List ℕ) (active signals k : ℕ) (l : k < 64) where
-  fair-turn : (t : ℕ) (ch : Choice) → Fair active k ch → Fair active k (choosingAt sources targets on off wait counts active signals t ch)
-  fair-turn t ch o = go (eqb (reason ch f g (getD on t 0) (getD off t 0) (getD wait t 0) counts active signals) 0) refl
+module _ (edition : ℕ) (sources targets on off wait counts : List ℕ) (active signals k : ℕ) (l : k < 64) where
+  abbrev so-far : ℕ → Choice
+  so-far n = chosen edition n sources targets on off wait counts active signals
+
+  fair-turn : (t : ℕ) (ch : Choice) → Fair edition active k ch → Fair edition active k (choosingAt edition sources targets on off wait counts active signals t ch)
+  fair-turn t ch o = go (eqb (reason ch f (tested edition g) (getD on t 0) (getD off t 0) (getD wait t 0) counts active signals) 0) refl
     where
       f : ℕ
       f = getD sources t 0
@@ -241,23 +268,23 @@ module _ (sources targets on off wait counts : List ℕ) (active signals k : ℕ
       g : ℕ
       g = getD targets t 0
 
-      go : (b : Bool) → eqb (reason ch f g (getD on t 0) (getD off t 0) (getD wait t 0) counts active signals) 0 ≡ b → Fair active k (cond b (takes ch t f g) ch)
+      go : (b : Bool) → eqb (reason ch f (tested edition g) (getD on t 0) (getD off t 0) (getD wait t 0) counts active signals) 0 ≡ b → Fair edition active k (cond b (takes ch t f g) ch)
       go true e =
-          let r = taken-free ch f g (getD on t 0) (getD off t 0) (getD wait t 0) counts active signals e in
+          let r = taken-free ch f (tested edition g) (getD on t 0) (getD off t 0) (getD wait t 0) counts active signals e in
           record {
             left = λ h. either (has (ch .left) k) (has f k) (sym (has-union (ch .left) f k l) ∙ h) (o .left) (within-has f active (r .sources) k l);
-            claimed = λ h. either (has (ch .claimed) k) (has g k) (sym (has-union (ch .claimed) g k l) ∙ h) (o .claimed) (apart-has g active (r .targets) k l);
+            claimed = λ d h. either (has (ch .claimed) k) (has g k) (sym (has-union (ch .claimed) g k l) ∙ h) (o .claimed d) (apart-has g active (rw d at (r .targets)) k l);
           }
       go false e = o
 
-  fair : (n : ℕ) → Fair active k (chosen n sources targets on off wait counts active signals)
+  fair : (n : ℕ) → Fair edition active k (so-far n)
   unfolding chosen turns
-  fair zero = record { left = λ h. never (sym (has-zero k) ∙ h); claimed = λ h. never (sym (has-zero k) ∙ h) }
-  fair (suc n) = fair-turn n (chosen n sources targets on off wait counts active signals) (fair n)
+  fair zero = record { left = λ h. never (sym (has-zero k) ∙ h); claimed = λ d h. never (sym (has-zero k) ∙ h) }
+  fair (suc n) = fair-turn n (so-far n) (fair n)
 
-  pub left-not-entered : (n : ℕ) → has (chosen n sources targets on off wait counts active signals .left) k ≡ true → has (chosen n sources targets on off wait counts active signals .claimed) k ≡ false
-  left-not-entered n h = go (has (chosen n sources targets on off wait counts active signals .claimed) k) refl
+  pub left-not-entered : (n : ℕ) → second edition ≡ false → has (so-far n .left) k ≡ true → has (so-far n .claimed) k ≡ false
+  left-not-entered n d h = go (has (so-far n .claimed) k) refl
     where
-      go : (b : Bool) → has (chosen n sources targets on off wait counts active signals .claimed) k ≡ b → b ≡ false
-      go true e = never (sym (fair n .claimed e) ∙ fair n .left h)
+      go : (b : Bool) → has (so-far n .claimed) k ≡ b → b ≡ false
+      go true e = never (sym (fair n .claimed d e) ∙ fair n .left h)
       go false e = refl

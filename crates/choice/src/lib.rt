@@ -5,7 +5,7 @@ ghost use mathlib.Core.Path.{_≡_};
 ghost use mathlib.Core.Bool.{_&&_, cond};
 ghost use lib.Dec.{eqb};
 ghost use Rattle.sets.specs.Sets.{Within, Apart};
-ghost use Rattle.choice.specs.Choice.{ripe, reason, takes, choosing, reasonsOf, heldReasons};
+ghost use Rattle.choice.specs.Choice.{ripe, reason, tested, takes, choosing, reasonsOf, heldReasons};
 use reasons::CLAIMED;
 use reasons::HOLD;
 use reasons::NOT_ACTIVE;
@@ -59,6 +59,16 @@ fn is_ready(
         & sets::is_apart(targets, choice.claimed)
 }
 
+// The targets that are tested: none in the second edition (document 02, request viii).
+fn tested(edition: u8, targets: u64) -> u64
+    ensures { λ r. ⌜ r ≡ tested edition targets ⌝ }
+{
+    if fields::is_second(edition) {
+        return 0;
+    }
+    targets
+}
+
 fn taking(choice: Choice, t: usize, sources: u64, targets: u64) -> Choice
     ensures { λ r. ⌜ r ≡ takes choice t sources targets ⌝ }
 {
@@ -70,6 +80,7 @@ fn taking(choice: Choice, t: usize, sources: u64, targets: u64) -> Choice
 }
 
 pub fn choose_one(
+    edition: u8,
     choice: Choice,
     t: usize,
     sources: u64,
@@ -81,9 +92,10 @@ pub fn choose_one(
     active: u64,
     signals: u64,
 ) -> Choice
-    ensures { λ r. ⌜ r ≡ choosing choice t sources targets on off wait (now (counts .entry)) active signals ⌝ }
+    ensures { λ r. ⌜ r ≡ choosing edition choice t sources targets on off wait (now (counts .entry)) active signals ⌝ }
 {
-    if is_ready(sources, targets, on, off, active, signals, choice) {
+    let test = tested(edition, targets);
+    if is_ready(sources, test, on, off, active, signals, choice) {
         if is_ripe(wait, sources, counts) {
             return taking(choice, t, sources, targets);
         }
@@ -137,6 +149,7 @@ fn taking_if(choice: Choice, t: usize, sources: u64, targets: u64, why: u8) -> C
 
 // Of each transition in number order, after those taken before it, of a run that is not held.
 pub fn explain<'a>(
+    edition: u8,
     n: usize,
     sources: &'a [u64; 64],
     targets: &'a [u64; 64],
@@ -148,7 +161,7 @@ pub fn explain<'a>(
     signals: u64,
     reasons: &mut [u8; 64],
 )
-    ensures { λ _. ⌜ now (reasons .exit) ≡ reasonsOf 0 n (now (sources .entry)) (now (targets .entry)) (now (on .entry)) (now (off .entry)) (now (wait .entry)) (now (counts .entry)) active signals ⌝ }
+    ensures { λ _. ⌜ now (reasons .exit) ≡ reasonsOf 0 edition n (now (sources .entry)) (now (targets .entry)) (now (on .entry)) (now (off .entry)) (now (wait .entry)) (now (counts .entry)) active signals ⌝ }
 {
     *reasons = [0; 64];
     let mut choice = Choice {
@@ -159,10 +172,11 @@ pub fn explain<'a>(
     let last = chart::at_most(n, 64);
     let mut t = 0;
     while t < last {
+        let test = tested(edition, targets[t]);
         let why = reason_of(
             choice,
             sources[t],
-            targets[t],
+            test,
             on[t],
             off[t],
             wait[t],

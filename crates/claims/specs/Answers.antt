@@ -12,12 +12,12 @@ use lib.ListN.{length, getD, take, drop}
 use lib.Dec.{eqb}
 use borrow.Author.Tests.{le-leb, lt-leb, eq-eqb, ne-eqb}
 use Rattle.sets.specs.Loops.{orElse}
-use Rattle.fields.specs.Fields.{unless}
+use Rattle.fields.specs.Fields.{unless, kindFits}
 use Rattle.chart.specs.Chart.{noChart}
 use Rattle.chart.specs.Held.{chartCode}
 use Rattle.chart.specs.declared.chart.Chart.{Chart}
 use Rattle.chart.proofs.held.Each.{chart-each}
-use Rattle.reader.specs.Framing.{lengthAt, kindAt, bodyLength, kindFits, recordNumber, recordValues}
+use Rattle.reader.specs.Framing.{lengthAt, kindAt, bodyLength, recordNumber, recordValues}
 use Rattle.reader.specs.Reading.{readChart}
 use Rattle.reader.specs.declared.reading.Reading.{Reading}
 use Rattle.reader.proofs.framing.Laws.{is-record}

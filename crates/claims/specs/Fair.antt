@@ -1,7 +1,8 @@
 -- What one answer does to the active steps: all that the ledger and the weights rely on.
 use Prim.Native.Nat.{ℕ, _+_, _≤_, _<_}
 use mathlib.Core.Bool.{Bool, true, false, cond}
-use mathlib.Core.Path.{_≡_, refl, sym, ap, _∙_}
+use mathlib.Core.Path.{_≡_, refl}
+use native.Mathlib.Omega.{arith}
 use lib.Dec.{leb, eqb}
 use borrow.Author.Tests.{eqb-true, eqb-false}
 use Rattle.sets.specs.Sets.{has}
@@ -21,14 +22,15 @@ use Rattle.cycle.specs.Cycling.{refused, startCode, cycleCode, started, startOf
 use Rattle.cycle.specs.declared.cycling.Cycled.{Cycled}
 use Rattle.cycle.proofs.cycling.Laws.{cycle-passed}
 use Rattle.key.specs.Turning.{markOf, marked, turnedAs, turnOf}
+use Rattle.claims.specs.AtLeast.{AtLeast}
 use Rattle.claims.specs.Moves.{among, Chosen, none-is, choice-is, moved}
 use Rattle.claims.specs.Runs.{Call, cycle, turn, keyed, answer, begun, one}
 
--- an answer o to a call that was given the run r: accepted, each step is entered and left by the taken transitions as its activity
--- changes; refused, the run is the one that was given; and what is taken is a transition of the chart, so that the history has it
+-- an answer o to a call that was given the run r: accepted, each step's arrivals and departures by the taken transitions are as its activity changes,
+-- in the second edition its arrivals at least; refused, the run is the one that was given; and what is taken is a transition of the chart, so that the history has it
 pub record Fair (c : Chart) (r : Run) (o : Cycled) : Type 0 where
   pub accepted : o .code ≡ 0 → (k : ℕ) → k < 64
-      → among (c .targets) (c .transitions) (o .taken) k + one (has (r .active) k) ≡ among (c .sources) (c .transitions) (o .taken) k + one (has (o .run .active) k)
+      → AtLeast (c .edition) (among (c .targets) (c .transitions) (o .taken) k + one (has (r .active) k)) (among (c .sources) (c .transitions) (o .taken) k + one (has (o .run .active) k))
   pub back : (o .code ≡ 0 → ⊥) → o .run ≡ r
   pub existing : (t : ℕ) → c .transitions ≤ t → has (o .taken) t ≡ false
 
@@ -43,7 +45,7 @@ fair-cycled c r clock inputs h =
     let signals = signalsOf inputs (r .activity) in
     let i = choice-is c r counts signals h in
     record {
-      accepted = λ e. moved (c .sources) (c .targets) (r .active) (c .transitions) (choiceOf c r counts signals) i;
+      accepted = λ e. moved (c .edition) (c .sources) (c .targets) (r .active) (c .transitions) (choiceOf c r counts signals) i;
       back = λ z. absurd (z refl);
       existing = i .new;
     }
@@ -52,12 +54,16 @@ fair-cycled c r clock inputs h =
 fair-keyed : (held : Bool) (c : Chart) (r : Run) → Fair c r (keyed (turnOf held c r))
 fair-keyed held c r = go (eqb (ownCode c r) 0) refl
   where
-    i : Chosen (c .sources) (c .targets) (r .active) (c .transitions) noneTaken
-    i = none-is (c .transitions) (c .sources) (c .targets) (r .active)
+    i : Chosen (c .edition) (c .sources) (c .targets) (r .active) (c .transitions) noneTaken
+    i = none-is (c .edition) (c .transitions) (c .sources) (c .targets) (r .active)
+
+    -- what no transition has as a target is at least what none leaves
+    stays : (k x y : ℕ) → AtLeast (c .edition) x (one (has 0 k)) → y ≡ one (has 0 k) → AtLeast (c .edition) (x + one (has (r .active) k)) (y + one (has (r .active) k))
+    stays k x y h e = record { least = omega (arith, h .least, e); equal = λ q. omega (arith, h .equal q, e) }
 
     go : (b : Bool) → eqb (ownCode c r) 0 ≡ b → Fair c r (keyed (cond b (turnedAs 0 (marked (markOf held) r)) (turnedAs (ownCode c r) r)))
     go true e = record {
-      accepted = λ z k l. ap (λ (n : ℕ). n + one (has (r .active) k)) (i .enters k l ∙ sym (i .leaves k l));
+      accepted = λ z k l. stays k (among (c .targets) (c .transitions) 0 k) (among (c .sources) (c .transitions) 0 k) (i .enters k l) (i .leaves k l);
       back = λ z. absurd (z refl);
       existing = i .new;
     }

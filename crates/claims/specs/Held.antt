@@ -1,6 +1,6 @@
 -- The hold key (document 02, request vii): what a cycle under hold does, and what the mark is to a run.
 use Prim.Native.Nat.{ℕ, _≤_, _<_}
-use mathlib.Core.Bool.{Bool, true, false, _&&_, _||_, cond}
+use mathlib.Core.Bool.{Bool, true, false, _&&_, _||_, not, cond}
 use mathlib.Core.List.{List}
 use mathlib.Core.Path.{_≡_, refl, sym, ap, ap₂, _∙_}
 use native.Mathlib.Nat.{lt-of-lt-of-le}
@@ -18,6 +18,7 @@ use Rattle.choice.specs.Choice.{noneTaken, held}
 use Rattle.choice.proofs.Laws.{reasons-at}
 use Rattle.acting.specs.Acting.{keptCount, request, requestOf, asked, acted}
 use Rattle.acting.specs.declared.Steps.{Steps}
+use Rattle.acting.specs.declared.Request.{Request}
 use Rattle.acting.specs.declared.Asked.{Asked}
 use Rattle.acting.specs.declared.Acted.{Acted}
 use Rattle.run.specs.Run.{noRun, longest, longer, counter, timer}
@@ -27,7 +28,7 @@ use Rattle.run.specs.declared.run.ActionTimer.{ActionTimer}
 use Rattle.run.specs.declared.run.Run.{Run}
 use Rattle.run.proofs.belongs.Laws.{Own, own}
 use Rattle.passes.specs.Time.{elapsed, grownCount, grownTime, grownCounts}
-use Rattle.passes.specs.Choosing.{movedTo, stepsOf}
+use Rattle.passes.specs.Choosing.{movedTo, enteredBy, stepsOf}
 use Rattle.passes.specs.Moving.{goodAt, badAt, marksOf, signalsOf}
 use Rattle.cycle.specs.Cycling.{refused, startCode, started, startOf, actedOn, countsAt, timesAt, cycled}
 use Rattle.cycle.specs.declared.cycling.Cycled.{Cycled}
@@ -65,8 +66,15 @@ pub record HeldCycle (c : Chart) (r : Run) (x : Cycle) (o : Cycled) : Type 0 whe
 stays : (a k : ℕ) → k < 64 → has (movedTo a noneTaken) k ≡ has a k
 stays a k l = has-union (minus a 0) 0 k l ∙ rw (has-minus a 0 k l, has-zero k) (or-false _ ∙ sym (and-yes (has a k)))
 
-kept-stays : (a k : ℕ) → k < 64 → has (minus (movedTo a noneTaken) 0) k ≡ has a k
-kept-stays a k l = has-minus (movedTo a noneTaken) 0 k l ∙ rw (has-zero k) (sym (and-yes _) ∙ stays a k l)
+none-entered : (a k : ℕ) → k < 64 → has (enteredBy a noneTaken) k ≡ false
+none-entered a k l = has-collect (λ j. has 0 j && (not (has a j) || has 0 j)) 64 k l ∙ rw (has-zero k)
+
+-- the steps that keep their counters then
+abbrev keptIn : ℕ → ℕ
+keptIn a = minus (movedTo a noneTaken) (enteredBy a noneTaken)
+
+kept-stays : (a k : ℕ) → k < 64 → has (keptIn a) k ≡ has a k
+kept-stays a k l = has-minus (movedTo a noneTaken) (enteredBy a noneTaken) k l ∙ rw (none-entered a k l) (sym (and-yes _) ∙ stays a k l)
 
 -- a counter that fits stands where nothing is added to it
 stands : (b kept : Bool) (n : ℕ) → kept ≡ b → (leb n longest && (b || eqb n 0)) ≡ true → cond kept (cond b (longer 0 n) 0) 0 ≡ n
@@ -90,10 +98,10 @@ module _ (c : Chart) (r : Run) (s : Sound c) (o : Own c r) where
   still = grownCounts (r .counters) (r .active) 0
 
   -- what a cycle that takes nothing leaves of it
-  count-stands : (k : ℕ) → k < 64 → keptCount (minus (movedTo (r .active) noneTaken) 0) k (getD still k 0) ≡ count k
+  count-stands : (k : ℕ) → k < 64 → keptCount (keptIn (r .active)) k (getD still k 0) ≡ count k
   count-stands k l =
       rw (getD-table (λ j. grownCount (r .active) 0 j (getD (r .counters) j (counter 0))) 64 k 0 l)
-      (stands (has (r .active) k) (has (minus (movedTo (r .active) noneTaken) 0) k) (count k) (kept-stays (r .active) k l) (fits k l))
+      (stands (has (r .active) k) (has (keptIn (r .active)) k) (count k) (kept-stays (r .active) k l) (fits k l))
 
   -- the marks of cases where nothing was left
   unmarked : (mark signals i : ℕ) → i < c .cases → (p : ℕ → ℕ → ℕ → ℕ → ℕ → Bool) → ((a b d : ℕ) → p a b d 0 signals ≡ false)
@@ -114,21 +122,23 @@ module _ (c : Chart) (r : Run) (s : Sound c) (o : Own c r) where
       (λ b m.
       let k = getD (c .blockstep) b 0 in
       let l : k < 64 = lt-of-lt-of-le (s .blockstep b m) (s .limits .steps) in
-      ap₂ (λ (on : Bool) (n : ℕ). request (getD (c .qualifier) b 0) (getD (c .duration) b 0) on (has 0 k) (has 0 k) n (getD times (getD (c .blockaction) b 0) 0)) (stays (r .active) k l)
+      let asks : Bool → Bool → ℕ → Request = λ on entered n. request (getD (c .qualifier) b 0) (getD (c .duration) b 0) on entered (has 0 k) n (getD times (getD (c .blockaction) b 0) 0) in
+      ap (λ (e : Bool). asks (has (movedTo (r .active) noneTaken) k) e (keptCount (keptIn (r .active)) k (getD still k 0))) (none-entered (r .active) k l ∙ sym (has-zero k))
+      ∙ ap₂ (λ (on : Bool) (n : ℕ). asks on (has 0 k) n) (stays (r .active) k l)
       (count-stands k l ∙ sym (rw (getD-table (λ j. getD (r .counters) j (counter 0) .0) 64 k 0 l) (counts-alone (has (r .active) k) (count k) (fits k l)))))
       (λ b m. refl)
 
   held-cycled : (x : Cycle) → held (r .hold) ≡ true → HeldCycle c r x (cycled c r (x .clock) (x .inputs))
   unfolding marksOf
   held-cycled x h =
-      let at = reasons-at (r .hold) (c .sources) (c .targets) (c .on) (c .off) (c .wait) (countsAt r (x .clock)) (r .active) (signalsOf (x .inputs) (r .activity)) (c .transitions) in
+      let at = reasons-at (r .hold) (c .edition) (c .sources) (c .targets) (c .on) (c .off) (c .wait) (countsAt r (x .clock)) (r .active) (signalsOf (x .inputs) (r .activity)) (c .transitions) in
       let few = s .limits .transitions in
       record {
         takes-none = rw h;
         why = λ t l. at t (lt-of-lt-of-le l few) ∙ rw (lt-ltb t (c .transitions) l, h);
         beyond = λ t g l. at t l ∙ rw (le-ltb t (c .transitions) g);
         active = λ k l. rw h (stays (r .active) k l);
-        counters = λ k l. rw (h, getD-table (λ j. counter (keptCount (minus (movedTo (r .active) noneTaken) 0) j (getD still j 0))) 64 k (counter 0) l) (ap counter (count-stands k l));
+        counters = λ k l. rw (h, getD-table (λ j. counter (keptCount (keptIn (r .active)) j (getD still j 0))) 64 k (counter 0) l) (ap counter (count-stands k l));
         timers = λ k l q.
             ap (λ (t : ActionTimer). t .0) (getD-table (λ j. timer (keptCount (cycled c r (x .clock) (x .inputs) .run .latched) j (getD (timesAt r (x .clock)) j 0))) 32 k (timer 0) l)
             ∙ ap (λ (b : Bool). cond b (getD (timesAt r (x .clock)) k 0) 0) q

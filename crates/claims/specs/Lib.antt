@@ -1,5 +1,6 @@
 pub mod Answers
-pub mod Examples
+pub mod AtLeast
+pub mod Editions
 pub mod Fair
 pub mod Ledger
 pub mod Marks

@@ -63,7 +63,7 @@ some-counted p (suc n) = go (p n) (some-counted p n)
     go false e = or-false (some p n) ∙ e ∙ rw add-zero
 
 -- where one is counted or none, by b, b tells whether p holds of some
-some-is : (p : ℕ → Bool) (n : ℕ) (b : Bool) → counted p n ≡ one b → some p n ≡ b
+pub some-is : (p : ℕ → Bool) (n : ℕ) (b : Bool) → counted p n ≡ one b → some p n ≡ b
 some-is p n true e = some-counted p n ∙ rw e
 some-is p n false e = some-counted p n ∙ rw e
 

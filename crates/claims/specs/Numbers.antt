@@ -11,16 +11,16 @@ use lib.Dec.{leb, ltb, eqb}
 use borrow.Author.Tests.{eqb-true, eq-eqb, ne-eqb}
 use Rattle.sets.specs.Loops.{firstCode}
 use Rattle.sets.proofs.Loops.{first-found}
-use Rattle.fields.specs.Fields.{unless, stepFits, actionFits, blockFits, caseFits}
-use Rattle.chart.specs.Chart.{noChart}
+use Rattle.fields.specs.Fields.{unless, kindFits, stepFits, actionFits, blockFits, caseFits, second}
+use Rattle.chart.specs.Chart.{emptyChart}
 use Rattle.chart.specs.Held.{closingCode}
 use Rattle.chart.specs.declared.chart.Chart.{Chart}
 use Rattle.chart.proofs.held.Each.{either, else-each, transition-each, closing-each, chart-each}
-use Rattle.reader.specs.Framing.{lengthAt, kindAt, bodyLength, kindFits, headNumber, recordNumber}
+use Rattle.reader.specs.Framing.{lengthAt, kindAt, bodyLength, headNumber, recordNumber}
 use Rattle.reader.specs.Bodies.{bodyAt}
 use Rattle.reader.specs.Reading.{refused, accepted, closed, ended, withBody, numberIn, taken, readFrom, readChart}
 use Rattle.reader.specs.declared.bodies.Body.{Body}
-use Rattle.reader.specs.declared.bodies.Body.the-variants.{Step, Action, Transition, Block, Case}
+use Rattle.reader.specs.declared.bodies.Body.the-variants.{Step, Action, Transition, Block, Case, Edition}
 use Rattle.reader.specs.declared.reading.Reading.{Reading}
 use Rattle.run.specs.Run.{noRun}
 use Rattle.run.specs.Belongs.{belongs, ownCode}
@@ -167,6 +167,7 @@ module _ (P : ℕ → Type 0) where
     body-each c (Transition f g on off w) = else-each P _ _ (either P (ltb (c .transitions) 64) 0 4 p0 p4) (transition-each P p0 p5 p6 p7 (c .steps) (c .actions) f g on off w)
     body-each c (Block k a q d) = else-each P _ _ (either P (ltb (c .blocks) 256) 0 4 p0 p4) (either P (blockFits (c .steps) (c .actions) k a q d) 0 5 p0 p5)
     body-each c (Case k n e) = else-each P _ _ (either P (ltb (c .cases) 64) 0 4 p0 p4) (either P (caseFits (c .steps) (c .actions) k n e) 0 5 p0 p5)
+    body-each c (Edition x) = else-each P _ _ (either P (ltb (c .edition) 2) 0 4 p0 p4) (either P (second x) 0 5 p0 p5)
 
     -- one of two readings, by a test
     answer-either : (t : Bool) (x y : Reading) → P (x .code) → P (y .code) → P (cond t x y .code)
@@ -196,7 +197,7 @@ module _ (P : ℕ → Type 0) where
         (record-each p0 p1 p2 p3 s at before)
 
     pub read-each : (s : List ℕ) → P (readChart s .code)
-    read-each s = from-each (length s + 1) s 0 0 noChart
+    read-each s = from-each (length s + 1) s 0 0 (emptyChart 1)
 
 -- ---- the first unbalanced transition
 

@@ -31,7 +31,7 @@ asP1 q = cond (eqb q P) P1 q
 -- a chart with other qualifiers
 abbrev pub qualified : Chart → List ℕ → Chart
 qualified c qualifier =
-    chartOf (c .steps) (c .actions) (c .transitions) (c .blocks) (c .cases) (c .initial) (c .output) (c .value) (c .sources) (c .targets) (c .on) (c .off) (c .wait) (c .blockstep) (c .blockaction) qualifier (c .duration) (c .casestep) (c .signal) (c .expected)
+    chartOf (c .steps) (c .actions) (c .transitions) (c .blocks) (c .cases) (c .initial) (c .output) (c .value) (c .sources) (c .targets) (c .on) (c .off) (c .wait) (c .blockstep) (c .blockaction) qualifier (c .duration) (c .casestep) (c .signal) (c .expected) (c .edition)
 
 -- a chart with P1 where it has P
 abbrev pub withP1 : Chart → Chart

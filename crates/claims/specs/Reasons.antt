@@ -8,8 +8,8 @@ use mathlib.Core.Path.{_≡_, refl, sym, subst, _∙_}
 use native.Mathlib.Nat.{lt-of-lt-of-le}
 use native.Mathlib.Omega.{arith}
 use lib.ListN.{getD, getD-replicate}
-use lib.Dec.{eqb, leb}
-use borrow.Author.Tests.{leb-true, leb-false, lt-ltb, le-ltb, eqb-true, eqb-false}
+use lib.Dec.{eqb, leb, ltb}
+use borrow.Author.Tests.{leb-true, leb-false, lt-ltb, le-ltb, eq-eqb, eqb-true, eqb-false}
 use Rattle.sets.specs.Loops.{all, orElse, turns}
 use Rattle.sets.specs.Sets.{has, Within, Apart}
 use Rattle.sets.proofs.Loops.{all-true, and-yes, or-true, or-false}
@@ -18,9 +18,9 @@ use Rattle.sets.proofs.Below.{within-has, apart-has, never}
 use Rattle.fields.specs.Fields.{unless}
 use Rattle.chart.specs.declared.chart.Chart.{Chart}
 use Rattle.chart.proofs.held.Sound.{sound}
-use Rattle.choice.specs.Choice.{ripe, reason, takes, choosingAt, noneTaken, chosen, reasonAt, held, chosenUnder, reasonUnder}
+use Rattle.choice.specs.Choice.{ripe, reason, tested, takes, choosingAt, noneTaken, chosen, reasonAt, held, chosenUnder, reasonUnder}
 use Rattle.choice.specs.declared.Choice.{Choice}
-use Rattle.choice.proofs.Laws.{taken-as-before, reason-under-most, reasons-at}
+use Rattle.choice.proofs.Laws.{taken-as-before, reason-under-most, reasons-at, second-reason}
 use Rattle.run.specs.declared.run.Run.{Run}
 use Rattle.passes.specs.Moving.{signalsOf}
 use Rattle.cycle.specs.Cycling.{refused, cycleCode, countsAt, cycled}
@@ -42,11 +42,11 @@ pub record Some (s : ℕ) (P : ℕ → Type 0) : Type 0 where
   pub holds : P member
 
 -- what is looked at for a transition: the hold mark, its own fields, the counters, the active steps and the signals of the cycle's beginning, and the
--- steps that earlier transitions use and claim
+-- steps that earlier transitions use and claim; of its targets those that are tested, none in the second edition (document 02, request viii)
 pub record Looked : Type 0 where
   pub hold : ℕ
   pub sources : ℕ
-  pub targets : ℕ
+  pub tested : ℕ
   pub on : ℕ
   pub off : ℕ
   pub wait : ℕ
@@ -77,10 +77,10 @@ abbrev pub Waited : Looked → Type 0
 Waited a = Every (a .sources) (λ k. a .wait ≤ getD (a .counts) k 0)
 
 abbrev pub Vacant : Looked → Type 0
-Vacant a = Every (a .targets) (λ k. has (a .active) k ≡ false)
+Vacant a = Every (a .tested) (λ k. has (a .active) k ≡ false)
 
 abbrev pub Unclaimed : Looked → Type 0
-Unclaimed a = Every (a .targets) (λ k. has (a .claimed) k ≡ false)
+Unclaimed a = Every (a .tested) (λ k. has (a .claimed) k ≡ false)
 
 -- what holds under each reason: no hold, the tests before it, and a step or a signal at which its own fails; under 7, hold
 pub record Meaning (a : Looked) (why : ℕ) : Type 0 where
@@ -90,8 +90,8 @@ pub record Meaning (a : Looked) (why : ℕ) : Type 0 where
   pub used : why ≡ 2 → Unheld a × Active a × Some (a .sources) (λ k. has (a .used) k ≡ true)
   pub signal : why ≡ 3 → Unheld a × Active a × Unused a × (Some (a .on) (λ k. has (a .signals) k ≡ false) ⊎ Some (a .off) (λ k. has (a .signals) k ≡ true))
   pub wait : why ≡ 4 → Unheld a × Active a × Unused a × Signalled a × Some (a .sources) (λ k. getD (a .counts) k 0 < a .wait)
-  pub occupied : why ≡ 5 → Unheld a × Active a × Unused a × Signalled a × Waited a × Some (a .targets) (λ k. has (a .active) k ≡ true)
-  pub claimed : why ≡ 6 → Unheld a × Active a × Unused a × Signalled a × Waited a × Vacant a × Some (a .targets) (λ k. has (a .claimed) k ≡ true)
+  pub occupied : why ≡ 5 → Unheld a × Active a × Unused a × Signalled a × Waited a × Some (a .tested) (λ k. has (a .active) k ≡ true)
+  pub claimed : why ≡ 6 → Unheld a × Active a × Unused a × Signalled a × Waited a × Vacant a × Some (a .tested) (λ k. has (a .claimed) k ≡ true)
   pub hold : why ≡ 7 → Held a
 
 -- ---- a test that fails, fails at a number
@@ -147,7 +147,7 @@ abbrev pub lookedAt : ℕ → Choice → ℕ → ℕ → ℕ → ℕ → ℕ →
 lookedAt hold ch s t on off w counts active signals = record {
   hold = hold;
   sources = s;
-  targets = t;
+  tested = t;
   on = on;
   off = off;
   wait = w;
@@ -217,24 +217,24 @@ as-before ch s t on off w counts active signals = taken-as-before ch s t on off 
 -- ---- the transitions of a cycle
 
 -- of n transitions, at most 64, those are taken whose reason is 0
-module _ (sources targets on off wait counts : List ℕ) (active signals : ℕ) where
+module _ (edition : ℕ) (sources targets on off wait counts : List ℕ) (active signals : ℕ) where
   abbrev taken : ℕ → ℕ
-  taken n = chosen n sources targets on off wait counts active signals .taken
+  taken n = chosen edition n sources targets on off wait counts active signals .taken
 
   abbrev why : ℕ → ℕ
-  why t = reasonAt sources targets on off wait counts active signals t
+  why t = reasonAt edition sources targets on off wait counts active signals t
 
   one-more : (n t : ℕ) → n < 64 → t < suc n → (t < n → has (taken n) t ≡ eqb (why t) 0) → has (taken (suc n)) t ≡ eqb (why t) 0
   unfolding chosen turns
   one-more n t l m before = go (eqb (why n) 0) refl (eqb t n) refl
     where
       ch : Choice
-      ch = turns (choosingAt sources targets on off wait counts active signals) noneTaken n
+      ch = turns (choosingAt edition sources targets on off wait counts active signals) noneTaken n
 
       go : (b : Bool) → eqb (why n) 0 ≡ b → (d : Bool) → eqb t n ≡ d → has (cond b (takes ch n (getD sources n 0) (getD targets n 0)) ch .taken) t ≡ eqb (why t) 0
       go true e true q = let same = eqb-true t n q in has-insert (ch .taken) n t (omega arith) ∙ rw (q, same, e) (or-true (has (ch .taken) n))
       go true e false q = let other = eqb-false t n q in has-insert (ch .taken) n t (omega arith) ∙ rw q (or-false (has (ch .taken) t) ∙ before (omega arith))
-      go false e true q = let same = eqb-true t n q in rw (same, e) (chosen-is n sources targets on off wait counts active signals (omega arith) .new n (omega arith))
+      go false e true q = let same = eqb-true t n q in rw (same, e) (chosen-is edition n sources targets on off wait counts active signals (omega arith) .new n (omega arith))
       go false e false q = let other = eqb-false t n q in before (omega arith)
 
   taken-zero : (n t : ℕ) → n ≤ 64 → t < n → has (taken n) t ≡ eqb (why t) 0
@@ -242,28 +242,44 @@ module _ (sources targets on off wait counts : List ℕ) (active signals : ℕ) 
   taken-zero (suc n) t h l = one-more n t (omega arith) l (λ m. taken-zero n t (omega arith) m)
 
 -- under hold none is, and no reason is 0
-taken-under : (hold : ℕ) (sources targets on off wait counts : List ℕ) (active signals n t : ℕ) → n ≤ 64 → t < n
-    → has (chosenUnder hold n sources targets on off wait counts active signals .taken) t ≡ eqb (reasonUnder hold (reasonAt sources targets on off wait counts active signals t)) 0
-taken-under hold sources targets on off wait counts active signals n t few l = go (held hold)
+taken-under : (hold edition : ℕ) (sources targets on off wait counts : List ℕ) (active signals n t : ℕ) → n ≤ 64 → t < n
+    → has (chosenUnder hold edition n sources targets on off wait counts active signals .taken) t ≡ eqb (reasonUnder hold (reasonAt edition sources targets on off wait counts active signals t)) 0
+taken-under hold edition sources targets on off wait counts active signals n t few l = go (held hold)
   where
-    go : (b : Bool) → has (cond b noneTaken (chosen n sources targets on off wait counts active signals) .taken) t ≡ eqb (orElse (unless (not b) 7) (reasonAt sources targets on off wait counts active signals t)) 0
+    go : (b : Bool) → has (cond b noneTaken (chosen edition n sources targets on off wait counts active signals) .taken) t ≡ eqb (orElse (unless (not b) 7) (reasonAt edition sources targets on off wait counts active signals t)) 0
     go true = has-zero t
-    go false = taken-zero sources targets on off wait counts active signals n t few l
+    go false = taken-zero edition sources targets on off wait counts active signals n t few l
 
 -- the fields of transition t in the cycle x of a chart from the run r: its counters have grown, and those before it are chosen
 abbrev pub lookedIn : Chart → Run → Cycle → ℕ → Looked
 lookedIn c r x t =
     let counts = countsAt r (x .clock) in
     let signals = signalsOf (x .inputs) (r .activity) in
-    lookedAt (r .hold) (chosen t (c .sources) (c .targets) (c .on) (c .off) (c .wait) counts (r .active) signals) (getD (c .sources) t 0) (getD (c .targets) t 0) (getD (c .on) t 0) (getD (c .off) t 0) (getD (c .wait) t 0) counts (r .active) signals
+    lookedAt (r .hold) (chosen (c .edition) t (c .sources) (c .targets) (c .on) (c .off) (c .wait) counts (r .active) signals) (getD (c .sources) t 0) (tested (c .edition) (getD (c .targets) t 0)) (getD (c .on) t 0) (getD (c .off) t 0) (getD (c .wait) t 0) counts (r .active) signals
 
 -- an answer o to the cycle x that was given the run r: accepted, each transition's reason means what it says, and those are taken whose reason is 0;
--- "Reasons .. of a refused call and beyond the last transition are 0."
+-- "Reasons .. of a refused call and beyond the last transition are 0."; in the second edition no target is occupied, and none claimed
 pub record Explained (c : Chart) (r : Run) (x : Cycle) (o : Cycled) : Type 0 where
   pub meaning : o .code ≡ 0 → (t : ℕ) → t < c .transitions → Meaning (lookedIn c r x t) (getD (o .reasons) t 0)
   pub taken : o .code ≡ 0 → (t : ℕ) → t < c .transitions → has (o .taken) t ≡ eqb (getD (o .reasons) t 0) 0
   pub beyond : (t : ℕ) → c .transitions ≤ t → t < 64 → getD (o .reasons) t 0 ≡ 0
   pub refused : (o .code ≡ 0 → ⊥) → o .reasons ≡ noReasons
+  pub second : c .edition ≡ 2 → (t : ℕ) → t < 64 → (getD (o .reasons) t 0 ≡ 5 → ⊥) × (getD (o .reasons) t 0 ≡ 6 → ⊥)
+
+-- a number that is at most 4, or 7, is neither 5 nor 6
+neither-of : {n : ℕ} (m : ℕ) → n ≡ m → (m ≤ 4) ⊎ (m ≡ 7) → (n ≡ 5 → ⊥) × (n ≡ 6 → ⊥)
+neither-of m e (inl l) = ((λ z. omega arith), (λ z. omega arith))
+neither-of m e (inr l) = ((λ z. omega arith), (λ z. omega arith))
+
+-- the reasons of the second edition are so, and 0 beyond
+second-under : (hold edition : ℕ) (ch : Choice) (s t on off w : ℕ) (counts : List ℕ) (active signals : ℕ) (b : Bool) → edition ≡ 2
+    → (cond b (reasonUnder hold (reason ch s (tested edition t) on off w counts active signals)) 0 ≤ 4) ⊎ (cond b (reasonUnder hold (reason ch s (tested edition t) on off w counts active signals)) 0 ≡ 7)
+second-under hold edition ch s t on off w counts active signals false q = inl (omega arith)
+second-under hold edition ch s t on off w counts active signals true q = go (held hold)
+  where
+    go : (h : Bool) → (orElse (unless (not h) 7) (reason ch s (tested edition t) on off w counts active signals) ≤ 4) ⊎ (orElse (unless (not h) 7) (reason ch s (tested edition t) on off w counts active signals) ≡ 7)
+    go true = inr refl
+    go false = inl (second-reason edition ch s t on off w counts active signals (eq-eqb edition 2 q))
 
 refused-explained : (c : Chart) (r : Run) (x : Cycle) (code : ℕ) → (code ≡ 0 → ⊥) → Explained c r x (refused code r)
 refused-explained c r x code z = record {
@@ -271,18 +287,20 @@ refused-explained c r x code z = record {
   taken = λ e. absurd (z e);
   beyond = λ t h l. getD-replicate 64 t 0 0 l;
   refused = λ e. refl;
+  second = λ q t l. neither-of 0 (getD-replicate 64 t 0 0 l) (inl (omega arith));
 }
 
 cycled-explained : (c : Chart) (r : Run) (x : Cycle) → c .transitions ≤ 64 → Explained c r x (cycled c r (x .clock) (x .inputs))
 cycled-explained c r x few =
     let counts = countsAt r (x .clock) in
     let signals = signalsOf (x .inputs) (r .activity) in
-    let at = reasons-at (r .hold) (c .sources) (c .targets) (c .on) (c .off) (c .wait) counts (r .active) signals (c .transitions) in
+    let at = reasons-at (r .hold) (c .edition) (c .sources) (c .targets) (c .on) (c .off) (c .wait) counts (r .active) signals (c .transitions) in
     record {
-      meaning = λ e t l. rw (at t (lt-of-lt-of-le l few), lt-ltb t (c .transitions) l) (meaning (r .hold) (chosen t (c .sources) (c .targets) (c .on) (c .off) (c .wait) counts (r .active) signals) (getD (c .sources) t 0) (getD (c .targets) t 0) (getD (c .on) t 0) (getD (c .off) t 0) (getD (c .wait) t 0) counts (r .active) signals);
-      taken = λ e t l. rw (at t (lt-of-lt-of-le l few), lt-ltb t (c .transitions) l) (taken-under (r .hold) (c .sources) (c .targets) (c .on) (c .off) (c .wait) counts (r .active) signals (c .transitions) t few l);
+      meaning = λ e t l. rw (at t (lt-of-lt-of-le l few), lt-ltb t (c .transitions) l) (meaning (r .hold) (chosen (c .edition) t (c .sources) (c .targets) (c .on) (c .off) (c .wait) counts (r .active) signals) (getD (c .sources) t 0) (tested (c .edition) (getD (c .targets) t 0)) (getD (c .on) t 0) (getD (c .off) t 0) (getD (c .wait) t 0) counts (r .active) signals);
+      taken = λ e t l. rw (at t (lt-of-lt-of-le l few), lt-ltb t (c .transitions) l) (taken-under (r .hold) (c .edition) (c .sources) (c .targets) (c .on) (c .off) (c .wait) counts (r .active) signals (c .transitions) t few l);
       beyond = λ t h l. at t l ∙ rw (le-ltb t (c .transitions) h);
       refused = λ z. absurd (z refl);
+      second = λ q t l. neither-of _ (at t l) (second-under (r .hold) (c .edition) _ _ _ _ _ _ counts (r .active) signals (ltb t (c .transitions)) q);
     }
 
 -- every answer of the cycle is so, whatever the chart, the run and the call

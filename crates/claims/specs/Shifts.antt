@@ -34,13 +34,14 @@ use Rattle.cycle.specs.Calling.{Calls, called, onward, singly}
 use Rattle.shift.specs.Shifting.{Done, answerOf, doneOf, listsFit, shiftCode, shiftOf}
 use Rattle.shift.proofs.shifting.Laws.{before-any, fit}
 use Rattle.tally.specs.Tallying.{tallyOf}
+use Rattle.tally.specs.Weighing.{weight}
 use Rattle.claims.specs.Answers.{oneOf, startNumbers}
 use Rattle.claims.specs.Fair.{fair}
-use Rattle.claims.specs.Ledger.{ledger}
+use Rattle.claims.specs.Ledger.{ledger, ledger-at-least}
 use Rattle.claims.specs.Numbers.{ready-each, cycle-each, left-alone, rest-kept}
 use Rattle.claims.specs.Runs.{Call, cycle, answer, after, history, one, arrivals, departures, begun}
 use Rattle.claims.specs.Tally.{tallied, tally-counts}
-use Rattle.claims.specs.Weights.{Balanced, initialWeight, never-together}
+use Rattle.claims.specs.Weights.{Balanced, initialWeight, never-rises, never-together}
 
 -- ---- what is claimed
 
@@ -296,10 +297,18 @@ module _ (c : Chart) (clock lent : ℕ) (e : startOf c clock lent .code ≡ 0) (
   pub shift-tally : tallyOf c reached-run ≡ tallied c (begun c clock lent) calls
   shift-tally = rw (entries-after c (begun c clock lent) es) (tally-counts c clock lent e calls)
 
-  pub shift-ledger : (k : ℕ) → k < c .steps
+  pub shift-ledger : c .edition ≡ 1 → (k : ℕ) → k < c .steps
       → one (initialAt (c .initial) k) + arrivals c k (history c (begun c clock lent) calls)
       ≡ departures c k (history c (begun c clock lent) calls) + one (has (reached-run .active) k)
-  shift-ledger k l = rw (entries-after c (begun c clock lent) es) (ledger c clock lent e calls k l)
+  shift-ledger first k l = rw (entries-after c (begun c clock lent) es) (ledger c clock lent e first calls k l)
+
+  pub shift-at-least : (k : ℕ) → k < c .steps
+      → departures c k (history c (begun c clock lent) calls) + one (has (reached-run .active) k)
+      ≤ one (initialAt (c .initial) k) + arrivals c k (history c (begun c clock lent) calls)
+  shift-at-least k l = rw (entries-after c (begun c clock lent) es) (ledger-at-least c clock lent e calls k l)
+
+  pub shift-never-rises : (w : ℕ → ℕ) → Balanced c w → weight w (reached-run .active) ≤ initialWeight c w
+  shift-never-rises w b = rw (entries-after c (begun c clock lent) es) (never-rises c clock lent e w b calls)
 
   pub shift-apart : (w : ℕ → ℕ) → Balanced c w → (i j : ℕ) → i < c .steps → j < c .steps → (i ≡ j → ⊥) → initialWeight c w < w i + w j
       → has (reached-run .active) i ≡ true → has (reached-run .active) j ≡ true → ⊥

@@ -6,12 +6,6 @@ use native.Mathlib.Nat.{eq-or-lt-of-le, le-of-suc-le-suc}
 use native.Mathlib.Omega.{arith}
 use Rattle.sets.specs.Loops.{summed}
 
--- an equation of each term is one of the sums
-pub sum-ledger : (a b c d : ℕ → ℕ) (n : ℕ) → ((k : ℕ) → k < n → a k + b k ≡ c k + d k) → summed a n + summed b n ≡ summed c n + summed d n
-unfolding summed
-sum-ledger a b c d zero h = refl
-sum-ledger a b c d (suc n) h = omega (arith, sum-ledger a b c d n (λ k l. h k (omega arith)), h n (omega arith))
-
 -- terms that are sums of two
 pub sum-split : (c a b : ℕ → ℕ) (n : ℕ) → ((k : ℕ) → k < n → c k ≡ a k + b k) → summed c n ≡ summed a n + summed b n
 unfolding summed

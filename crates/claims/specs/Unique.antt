@@ -11,8 +11,8 @@ use mir.Val.{toZ, ofZ}
 use Rattle.sets.specs.Sets.{has, Within, Apart, Below, union, inter, minus, insert, beyond, first, remove, size}
 use Rattle.sets.proofs.Unique.{is-in-unique, is-within-unique, is-apart-unique, names-below-unique, joined-unique, common-unique, without-unique, with-unique, with-if-unique, is-in-mod-unique, with-if-mod-unique, beyond-unique, first-unique, without-first-unique, size-unique}
 use Rattle.sets.specs.Loops.{orElse}
-use Rattle.fields.specs.Fields.{timed, unless, stepFits, actionFits, transitionCode, durationFits, blockFits, caseFits}
-use Rattle.fields.proofs.Unique.{is-timed-unique, or-else-unique, unless-unique, step-fits-unique, action-fits-unique, transition-passes-unique, transition-code-unique, duration-fits-unique, block-fits-unique, case-fits-unique}
+use Rattle.fields.specs.Fields.{timed, unless, kindFits, stepFits, actionFits, transitionCode, durationFits, blockFits, caseFits, editionFits, second}
+use Rattle.fields.proofs.Unique.{is-timed-unique, or-else-unique, unless-unique, kind-fits-unique, step-fits-unique, action-fits-unique, transition-passes-unique, transition-code-unique, duration-fits-unique, block-fits-unique, case-fits-unique, edition-fits-unique, is-second-unique}
 use Rattle.chart.specs.Held.{closingCode, heldCode, chartCode}
 use Rattle.chart.specs.Initial.{initialSet}
 use Rattle.chart.specs.declared.chart.Chart.{Chart}
@@ -41,7 +41,7 @@ use Rattle.run.specs.declared.apart.Words.{Words}
 use Rattle.run.specs.declared.run.StepCounter.{StepCounter}
 use Rattle.run.specs.declared.run.ActionTimer.{ActionTimer}
 use Rattle.run.specs.declared.run.Run.{Run}
-use Rattle.run.proofs.Unique.{parts-belong-unique, own-code-unique, counter-longer-unique, timer-longer-unique, no-run-unique, words-of-unique, counts-of-unique, times-of-unique, run-of-unique}
+use Rattle.run.proofs.Unique.{parts-belong-unique, own-code-unique, counter-longer-unique, timer-longer-unique, no-run-unique, words-of-unique, put-words-unique, counts-of-unique, times-of-unique, run-of-unique}
 use Rattle.passes.specs.Rests.{rests}
 use Rattle.passes.specs.Time.{elapsed, stepTime, grownCounts}
 use Rattle.passes.specs.Choosing.{stepsOf}
@@ -110,6 +110,7 @@ pub record FieldsUnique : Type 0 where
   pub is-timed : (qualifier : ℕ) → One (λ (r : Bool). r ≡ timed qualifier)
   pub or-else : (a b : ℕ) → One (λ (r : ℕ). r ≡ orElse a b)
   pub unless : (ok : Bool) (code : ℕ) → One (λ (r : ℕ). r ≡ unless ok code)
+  pub kind-fits : (kind before : ℕ) → One (λ (r : Bool). r ≡ kindFits kind before)
   pub step-fits : (initial : ℕ) → One (λ (r : Bool). r ≡ stepFits initial)
   pub action-fits : (output : ℕ) → One (λ (r : Bool). r ≡ actionFits output)
   pub transition-passes : (steps actions sources targets on off wait : ℕ) → One (λ (r : Bool). r ≡ eqb (transitionCode steps actions sources targets on off wait) 0)
@@ -117,14 +118,16 @@ pub record FieldsUnique : Type 0 where
   pub duration-fits : (qualifier duration : ℕ) → One (λ (r : Bool). r ≡ durationFits qualifier duration)
   pub block-fits : (steps actions step action qualifier duration : ℕ) → One (λ (r : Bool). r ≡ blockFits steps actions step action qualifier duration)
   pub case-fits : (steps actions step signal expected : ℕ) → One (λ (r : Bool). r ≡ caseFits steps actions step signal expected)
+  pub edition-fits : (edition : ℕ) → One (λ (r : Bool). r ≡ editionFits edition)
+  pub is-second : (edition : ℕ) → One (λ (r : Bool). r ≡ second edition)
 
 -- chart/src: chart, held, initial
 pub record ChartUnique : Type 0 where
   pub at-most : (n table : ℕ) → One (λ (r : ℕ). r ≡ min n table)
   pub index-of : (x : ℕ) → One (λ (r : ℕ). (r ≡ x) × (r < 256))
   pub closing-code : (steps blocks : ℕ) (initial blockaction qualifier : List ℕ) → One (λ (r : ℕ). r ≡ closingCode steps blocks initial blockaction qualifier)
-  pub held-code : (steps actions transitions blocks cases : ℕ) (initial output sources targets on off wait blockstep blockaction qualifier duration casestep signal expected : List ℕ)
-      → One (λ (r : ℕ). r ≡ heldCode steps actions transitions blocks cases initial output sources targets on off wait blockstep blockaction qualifier duration casestep signal expected)
+  pub held-code : (steps actions transitions blocks cases : ℕ) (initial output sources targets on off wait blockstep blockaction qualifier duration casestep signal expected : List ℕ) (edition : ℕ)
+      → One (λ (r : ℕ). r ≡ heldCode steps actions transitions blocks cases initial output sources targets on off wait blockstep blockaction qualifier duration casestep signal expected edition)
   pub chart-code : (chart : Chart) → One (λ (r : ℕ). r ≡ chartCode chart)
   pub initial-of : (n : ℕ) (initial : List ℕ) → One (λ (r : ℕ). r ≡ initialSet n initial)
 
@@ -140,10 +143,10 @@ pub record ReaderUnique : Type 0 where
 
 -- choice/src/lib.rt
 pub record ChoiceUnique : Type 0 where
-  pub choose-one : (choice : Choice) (t sources targets on off wait : ℕ) (counts : List ℕ) (active signals : ℕ)
-      → One (λ (r : Choice). r ≡ choosing choice t sources targets on off wait counts active signals)
-  pub explain : (n : ℕ) (sources targets on off wait counts : List ℕ) (active signals : ℕ)
-      → One (λ (exit : List ℕ). exit ≡ reasonsOf 0 n sources targets on off wait counts active signals)
+  pub choose-one : (edition : ℕ) (choice : Choice) (t sources targets on off wait : ℕ) (counts : List ℕ) (active signals : ℕ)
+      → One (λ (r : Choice). r ≡ choosing edition choice t sources targets on off wait counts active signals)
+  pub explain : (edition n : ℕ) (sources targets on off wait counts : List ℕ) (active signals : ℕ)
+      → One (λ (exit : List ℕ). exit ≡ reasonsOf 0 edition n sources targets on off wait counts active signals)
   pub hold-all : (n : ℕ) → One (λ (exit : List ℕ). exit ≡ heldReasons n)
 
 -- acting/src/lib.rt
@@ -163,6 +166,7 @@ pub record RunUnique : Type 0 where
   pub own-code : (held : ℕ) (words : Words) (counts times : List ℕ) (steps actions cases : ℕ)
       → One (λ (r : ℕ). (r ≡ ownAfter held steps actions cases (runOf words counts times)) × (length counts ≡ 64) × (length times ≡ 32))
   pub words-of : (run : Run) → One (λ (r : Words). r ≡ wordsOf run)
+  pub put-words : (words : Words) → One (λ (exit : Words). exit ≡ words)
   pub counts-of : (counters : List StepCounter) → One (λ (r : List ℕ). (r ≡ countsOf counters) × (length counters ≡ 64))
   pub times-of : (timers : List ActionTimer) → One (λ (r : List ℕ). (r ≡ timesOf timers) × (length timers ≡ 32))
   pub run-of : (words : Words) (counts times : List ℕ) → One (λ (r : Run). r ≡ runOf words counts times)
@@ -170,8 +174,8 @@ pub record RunUnique : Type 0 where
 -- passes/src: asking, choosing, explaining, moving, outputs, time
 pub record PassesUnique : Type 0 where
   pub step-time : (hold e : ℕ) → One (λ (r : ℕ). r ≡ stepTime hold e)
-  pub choose : (hold n : ℕ) (sources targets on off wait counts : List ℕ) (active signals : ℕ)
-      → One (λ (r : Choice). r ≡ chosenUnder hold (min n 64) sources targets on off wait counts active signals)
+  pub choose : (hold edition n : ℕ) (sources targets on off wait counts : List ℕ) (active signals : ℕ)
+      → One (λ (r : Choice). r ≡ chosenUnder hold edition (min n 64) sources targets on off wait counts active signals)
   pub steps-of : (active : ℕ) (choice : Choice) → One (λ (r : Steps). r ≡ stepsOf active choice)
   pub signals-of : (inputs activity : ℕ) → One (λ (r : ℕ). r ≡ signalsOf inputs activity)
   pub marks-of : (n : ℕ) (step signal expected : List ℕ) (left signals : ℕ)
@@ -180,8 +184,8 @@ pub record PassesUnique : Type 0 where
       → One (λ (r : Asked). r ≡ asked (min n 256) (rests 64 blockstep) (rests 32 blockaction) qualifier duration counts times steps)
   pub write-outputs : (outputs : List ℤ) (n : ℕ) (output : List ℕ) (value : List ℤ) (activity : ℕ)
       → One (λ (exit : List ℤ). exit ≡ written (min n 32) (rests 32 output) value activity outputs)
-  pub explain : (n : ℕ) (sources targets on off wait : List ℕ) (words : Words) (counts : List ℕ) (clock inputs : ℕ)
-      → One (λ (exit : List ℕ). exit ≡ reasonsOf (words .hold) n sources targets on off wait (grownCounts (countersOf counts) (words .active) (stepTime (words .hold) (elapsed (words .clock) clock))) (words .active) (signalsOf inputs (words .activity)))
+  pub explain : (edition n : ℕ) (sources targets on off wait : List ℕ) (words : Words) (counts : List ℕ) (clock inputs : ℕ)
+      → One (λ (exit : List ℕ). exit ≡ reasonsOf (words .hold) edition n sources targets on off wait (grownCounts (countersOf counts) (words .active) (stepTime (words .hold) (elapsed (words .clock) clock))) (words .active) (signalsOf inputs (words .activity)))
   pub keep-if : (code : ℕ) (reasons : List ℕ) → One (λ (exit : List ℕ). exit ≡ keptIf code reasons)
   pub elapsed : (last new : ℕ) → One (λ (r : ℕ). r ≡ elapsed last new)
 
@@ -277,6 +281,7 @@ unique = record {
     is-timed = is-timed-unique;
     or-else = or-else-unique;
     unless = unless-unique;
+    kind-fits = kind-fits-unique;
     step-fits = step-fits-unique;
     action-fits = action-fits-unique;
     transition-passes = transition-passes-unique;
@@ -284,6 +289,8 @@ unique = record {
     duration-fits = duration-fits-unique;
     block-fits = block-fits-unique;
     case-fits = case-fits-unique;
+    edition-fits = edition-fits-unique;
+    is-second = is-second-unique;
   };
   chart = record {
     at-most = at-most-unique;
@@ -311,6 +318,7 @@ unique = record {
     parts-belong = λ words counts times steps actions cases r q a b. parts-belong-unique words counts times steps actions cases r q (a .0) (b .0);
     own-code = λ held words counts times steps actions cases r q a b. own-code-unique held steps actions cases (runOf words counts times) r q (a .0) (b .0);
     words-of = words-of-unique;
+    put-words = put-words-unique;
     counts-of = λ counters r q a b. counts-of-unique counters r q (a .0) (b .0);
     times-of = λ timers r q a b. times-of-unique timers r q (a .0) (b .0);
     run-of = run-of-unique;
@@ -318,13 +326,13 @@ unique = record {
   passes = record {
     elapsed = elapsed-unique;
     step-time = step-time-unique;
-    choose = λ hold n. choose-unique hold (min n 64);
+    choose = λ hold edition n. choose-unique hold edition (min n 64);
     steps-of = steps-of-unique;
     signals-of = signals-of-unique;
     marks-of = λ n step signal. marks-of-unique (min n 64) (rests 64 step) (rests 64 signal);
     ask-blocks = λ n blockstep blockaction. ask-blocks-unique (min n 256) (rests 64 blockstep) (rests 32 blockaction);
     write-outputs = λ outputs n output value activity. write-outputs-unique (min n 32) (rests 32 output) value activity outputs;
-    explain = λ n sources targets on off wait words counts. call-explain-unique n sources targets on off wait counts words;
+    explain = λ edition n sources targets on off wait words counts. call-explain-unique edition n sources targets on off wait counts words;
     keep-if = keep-if-unique;
   };
   cycle = record {

@@ -1,5 +1,5 @@
 -- "With balanced whole weights the active steps weigh what the initial ones did, so two steps that together weigh more are never active
--- together."
+-- together." Document 02, request (viii), of edition 2: "the weighed sum never rises, so the exclusion of two steps holds as before".
 use Prim.Native.Nat.{ℕ, zero, suc, _+_, _*_, _≤_, _<_}
 use mathlib.Core.Bool.{Bool, true, false, cond, _&&_}
 use mathlib.Core.List.{List, [], _∷_}
@@ -21,10 +21,11 @@ use Rattle.cycle.specs.Cycling.{startOf}
 use Rattle.cycle.specs.declared.cycling.Cycled.{Cycled}
 use Rattle.tally.specs.Weighing.{weight, weightIn, balanced, unbalanced, unbalancedIn, weighCode, refused, weighOf}
 use Rattle.tally.specs.declared.weighing.Weighed.{Weighed}
+use Rattle.claims.specs.AtLeast.{AtLeast, same, then, sum-ledger, times}
 use Rattle.claims.specs.Fair.{Fair, fair, begins}
 use Rattle.claims.specs.Moves.{among}
 use Rattle.claims.specs.Runs.{Call, answer, after, begun, one}
-use Rattle.claims.specs.Sums.{sum-ledger, sum-split, sum-none, two-in-sum}
+use Rattle.claims.specs.Sums.{sum-split, sum-none, two-in-sum}
 
 -- the sources of each transition weigh as much as its targets, step k weighing w k
 abbrev pub Balanced : Chart → (ℕ → ℕ) → Type 0
@@ -56,13 +57,6 @@ carried m w l (suc n) s =
     last true = summed-same (λ k. one (has (getD l n 0) k) * w k) (λ k. cond (has (getD l n 0) k) (w k) 0) m (λ k q. part (has (getD l n 0) k) (w k))
     last false = sum-none (λ k. 0 * w k) m (λ k q. omega arith)
 
--- an equation of counts, times a weight
-times : (a b : Bool) (x y w : ℕ) → x + one a ≡ y + one b → x * w + cond a w 0 ≡ y * w + cond b w 0
-times true true x y w e = omega (arith, ap (λ (z : ℕ). z * w) e)
-times true false x y w e = omega (arith, ap (λ (z : ℕ). z * w) e)
-times false true x y w e = omega (arith, ap (λ (z : ℕ). z * w) e)
-times false false x y w e = omega (arith, ap (λ (z : ℕ). z * w) e)
-
 module _ (c : Chart) (w : ℕ → ℕ) (b : Balanced c w) where
   -- in a balanced chart the transitions of a set carry away what they bring
   even : (s : ℕ) → summed (λ k. among (c .targets) (c .transitions) s k * w k) 64 ≡ summed (λ k. among (c .sources) (c .transitions) s k * w k) 64
@@ -72,26 +66,24 @@ module _ (c : Chart) (w : ℕ → ℕ) (b : Balanced c w) where
       (λ t q. ap (λ (x : ℕ). cond (has s t) x 0) (sym (b t q)))
       ∙ sym (carried 64 w (c .sources) (c .transitions) s)
 
-  -- the active steps weigh the same before and after
-  kept : (r : Run) (o : Cycled) → Fair c r o → weight w (o .run .active) ≡ weight w (r .active)
+  -- the active steps weigh no more after than before, and the same in the first edition
+  kept : (r : Run) (o : Cycled) → Fair c r o → AtLeast (c .edition) (weight w (r .active)) (weight w (o .run .active))
   kept r o f = go (eqb (o .code) 0) refl
     where
-      go : (q : Bool) → eqb (o .code) 0 ≡ q → weight w (o .run .active) ≡ weight w (r .active)
-      go true e = omega (
-        arith,
-        even (o .taken),
-        sum-ledger (λ k. among (c .targets) (c .transitions) (o .taken) k * w k) (λ k. cond (has (r .active) k) (w k) 0)
-            (λ k. among (c .sources) (c .transitions) (o .taken) k * w k) (λ k. cond (has (o .run .active) k) (w k) 0) 64
-            (λ k l. times (has (r .active) k) (has (o .run .active) k) (among (c .targets) (c .transitions) (o .taken) k)
-            (among (c .sources) (c .transitions) (o .taken) k) (w k) (f .accepted (eqb-true _ 0 e) k l)),
-      )
-      go false e = ap (λ (z : Run). weight w (z .active)) (f .back (eqb-false _ 0 e))
+      go : (q : Bool) → eqb (o .code) 0 ≡ q → AtLeast (c .edition) (weight w (r .active)) (weight w (o .run .active))
+      go true e =
+          let x = sum-ledger (λ k. among (c .targets) (c .transitions) (o .taken) k * w k) (λ k. cond (has (r .active) k) (w k) 0)
+          (λ k. among (c .sources) (c .transitions) (o .taken) k * w k) (λ k. cond (has (o .run .active) k) (w k) 0) 64
+          (λ k l. times (has (r .active) k) (has (o .run .active) k) (among (c .targets) (c .transitions) (o .taken) k)
+          (among (c .sources) (c .transitions) (o .taken) k) (w k) (f .accepted (eqb-true _ 0 e) k l)) in
+          record { least = omega (arith, even (o .taken), x .least); equal = λ q. omega (arith, even (o .taken), x .equal q) }
+      go false e = same (ap (λ (z : Run). weight w (z .active)) (sym (f .back (eqb-false _ 0 e))))
 
   -- over any calls
-  constant : (r : Run) (xs : List Call) → weight w (after c r xs .active) ≡ weight w (r .active)
+  never-rises-from : (r : Run) (xs : List Call) → AtLeast (c .edition) (weight w (r .active)) (weight w (after c r xs .active))
   unfolding after
-  constant r [] = refl
-  constant r (x ∷ xs) = constant (answer c r x .run) xs ∙ kept r (answer c r x) (fair c r x)
+  never-rises-from r [] = same refl
+  never-rises-from r (x ∷ xs) = then (kept r (answer c r x) (fair c r x)) (never-rises-from (answer c r x .run) xs)
 
 -- two different steps of a set weigh no more than the set
 two-weigh : (w : ℕ → ℕ) (s i j : ℕ) → i < 64 → j < 64 → (i ≡ j → ⊥) → has s i ≡ true → has s j ≡ true → w i + w j ≤ weight w s
@@ -101,9 +93,15 @@ two-weigh w s i j li lj d hi hj =
 -- ---- from an accepted start, over any calls
 
 -- the active steps weigh what the initial ones did
-pub weight-kept : (c : Chart) (clock lent : ℕ) → startOf c clock lent .code ≡ 0 → (w : ℕ → ℕ) → Balanced c w → (xs : List Call)
+pub weight-kept : (c : Chart) (clock lent : ℕ) → startOf c clock lent .code ≡ 0 → c .edition ≡ 1 → (w : ℕ → ℕ) → Balanced c w → (xs : List Call)
     → weight w (after c (begun c clock lent) xs .active) ≡ initialWeight c w
-weight-kept c clock lent e w b xs = constant c w b (begun c clock lent) xs ∙ ap (λ (s : ℕ). weight w s) (begins c clock lent e .initial)
+weight-kept c clock lent e first w b xs =
+    sym (never-rises-from c w b (begun c clock lent) xs .equal first) ∙ ap (λ (s : ℕ). weight w s) (begins c clock lent e .initial)
+
+-- in either edition, no more
+pub never-rises : (c : Chart) (clock lent : ℕ) → startOf c clock lent .code ≡ 0 → (w : ℕ → ℕ) → Balanced c w → (xs : List Call)
+    → weight w (after c (begun c clock lent) xs .active) ≤ initialWeight c w
+never-rises c clock lent e w b xs = omega (arith, never-rises-from c w b (begun c clock lent) xs .least, ap (λ (s : ℕ). weight w s) (begins c clock lent e .initial))
 
 -- two different steps that together weigh more are not both active
 pub never-together : (c : Chart) (clock lent : ℕ) → startOf c clock lent .code ≡ 0 → (w : ℕ → ℕ) → Balanced c w → (xs : List Call)
@@ -111,7 +109,7 @@ pub never-together : (c : Chart) (clock lent : ℕ) → startOf c clock lent .co
     → has (after c (begun c clock lent) xs .active) i ≡ true → has (after c (begun c clock lent) xs .active) j ≡ true → ⊥
 never-together c clock lent e w b xs i j li lj d more hi hj =
     let few = begins c clock lent e .few in
-    omega (arith, weight-kept c clock lent e w b xs, two-weigh w (after c (begun c clock lent) xs .active) i j (omega arith) (omega arith) d hi hj)
+    omega (arith, never-rises c clock lent e w b xs, two-weigh w (after c (begun c clock lent) xs .active) i j (omega arith) (omega arith) d hi hj)
 
 -- ---- the weighing
 

@@ -1,7 +1,7 @@
 -- Charts written back (document 02, request i): "Write a held chart into lent bytes in the form of document 01. Reading what was written gives the
 -- same chart as far as its counts reach, and writing what was read gives the same bytes. The answer is the length written; bytes behind it stay.
 -- Refusals: the chart's own first, then 17 when the lent bytes are fewer than the chart's length, nothing written."
-use Prim.Native.Nat.{ℕ, _+_, _*_, _≤_, _<_}
+use Prim.Native.Nat.{ℕ, _+_, _-_, _*_, _≤_, _<_}
 use mathlib.Core.Bool.{true}
 use mathlib.Core.List.{List, [], _∷_, _++_}
 use mathlib.Core.Path.{_≡_, refl, sym, ap, _∙_}
@@ -41,7 +41,7 @@ pub record WritingAnswer (c : Chart) (lent : List ℕ) (o : Writing) (exit : Lis
   pub accepted : chartCode c ≡ 0 → length (fileOf c) ≤ length lent → o .code ≡ 0
   pub no-length : (o .code ≡ 0 → ⊥) → o .length ≡ 0
   pub untouched : (o .code ≡ 0 → ⊥) → exit ≡ lent
-  pub long : o .code ≡ 0 → o .length ≡ 5 * c .steps + 9 * c .actions + 40 * c .transitions + 11 * c .blocks + 7 * c .cases + 4
+  pub long : o .code ≡ 0 → o .length ≡ 5 * c .steps + 9 * c .actions + 40 * c .transitions + 11 * c .blocks + 7 * c .cases + 5 * (c .edition - 1) + 4
   pub writes : o .code ≡ 0 → take (o .length) exit ≡ fileOf c
   pub no-others : o .code ≡ 0 → drop (o .length) exit ≡ drop (o .length) lent
 

@@ -26,4 +26,5 @@ bounded c = record {
   casestep = rests 64 (c .casestep);
   signal = rests 64 (c .signal);
   expected = c .expected;
+  edition = c .edition;
 }

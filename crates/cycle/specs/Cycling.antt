@@ -95,12 +95,12 @@ timesAt r clock = grownTimes (r .timers) (r .latched) (elapsed (r .clock) clock)
 -- paragraph 2, from what held at the cycle's beginning
 abbrev pub choiceOf : Chart → Run → List ℕ → ℕ → Choice
 choiceOf c r counts signals =
-    chosenUnder (r .hold) (c .transitions) (c .sources) (c .targets) (c .on) (c .off) (c .wait) counts (r .active) signals
+    chosenUnder (r .hold) (c .edition) (c .transitions) (c .sources) (c .targets) (c .on) (c .off) (c .wait) counts (r .active) signals
 
 -- and why each transition is not taken
 abbrev pub reasonsIn : Chart → Run → List ℕ → ℕ → List ℕ
 reasonsIn c r counts signals =
-    reasonsOf (r .hold) (c .transitions) (c .sources) (c .targets) (c .on) (c .off) (c .wait) counts (r .active) signals
+    reasonsOf (r .hold) (c .edition) (c .transitions) (c .sources) (c .targets) (c .on) (c .off) (c .wait) counts (r .active) signals
 
 -- by the counters as they have grown and the signals of the call
 abbrev pub whyIn : Chart → Run → ℕ → ℕ → List ℕ

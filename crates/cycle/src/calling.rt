@@ -38,6 +38,7 @@ pub fn cycles_on<'a>(
     casestep: &'a [u8; 64],
     signal: &'a [u8; 64],
     expected: &'a [u8; 64],
+    edition: u8,
     first: Words,
     counts: &mut [u32; 64],
     times: &mut [u32; 32],
@@ -46,7 +47,7 @@ pub fn cycles_on<'a>(
     activities: &mut [u64],
     outputs: &mut [i32],
 ) -> Went
-    ensures { λ r. ⌜ (r, now (counts .exit), now (times .exit), now (activities .exit), now (outputs .exit)) ≡ inParts (callsOn (chartOf steps actions transitions blocks cases (now (initial .entry)) (now (output .entry)) (now (value .entry)) (now (sources .entry)) (now (targets .entry)) (now (on .entry)) (now (off .entry)) (now (wait .entry)) (now (blockstep .entry)) (now (blockaction .entry)) (now (qualifier .entry)) (now (duration .entry)) (now (casestep .entry)) (now (signal .entry)) (now (expected .entry))) (runOf first (now (counts .entry)) (now (times .entry))) (now (clocks .entry)) (now (inputs .entry)) (now (activities .entry)) (now (outputs .entry))) ⌝ }
+    ensures { λ r. ⌜ (r, now (counts .exit), now (times .exit), now (activities .exit), now (outputs .exit)) ≡ inParts (callsOn (chartOf steps actions transitions blocks cases (now (initial .entry)) (now (output .entry)) (now (value .entry)) (now (sources .entry)) (now (targets .entry)) (now (on .entry)) (now (off .entry)) (now (wait .entry)) (now (blockstep .entry)) (now (blockaction .entry)) (now (qualifier .entry)) (now (duration .entry)) (now (casestep .entry)) (now (signal .entry)) (now (expected .entry)) edition) (runOf first (now (counts .entry)) (now (times .entry))) (now (clocks .entry)) (now (inputs .entry)) (now (activities .entry)) (now (outputs .entry))) ⌝ }
 {
     let held = chart::held_code(
         steps,
@@ -68,6 +69,7 @@ pub fn cycles_on<'a>(
         casestep,
         signal,
         expected,
+        edition,
     );
     let code = cycling::ready_code(
         held,
@@ -122,6 +124,7 @@ pub fn cycles_on<'a>(
             casestep,
             signal,
             expected,
+            edition,
             words,
             counts,
             times,

@@ -83,6 +83,7 @@ pub(crate) fn step<'a>(
     casestep: &'a [u8; 64],
     signal: &'a [u8; 64],
     expected: &'a [u8; 64],
+    edition: u8,
     words: Words,
     counts: &mut [u32; 64],
     times: &mut [u32; 32],
@@ -91,7 +92,7 @@ pub(crate) fn step<'a>(
     outputs: &mut [i32],
 ) -> Stepped
     requires { ⌜ (32 ≤ length (now outputs)) × (countersFit (countersOf (now counts)) (words .active) ≡ true) × (timersFit (timersOf (now times)) (words .latched) ≡ true) ⌝ }
-    ensures { λ r. ⌜ ((r .taken, runOf (r .words) (now (counts .exit)) (now (times .exit)), now (outputs .exit)) ≡ movedOn (bounded (chartOf steps actions transitions blocks cases (now (initial .entry)) (now (output .entry)) (now (value .entry)) (now (sources .entry)) (now (targets .entry)) (now (on .entry)) (now (off .entry)) (now (wait .entry)) (now (blockstep .entry)) (now (blockaction .entry)) (now (qualifier .entry)) (now (duration .entry)) (now (casestep .entry)) (now (signal .entry)) (now (expected .entry)))) (runOf words (now (counts .entry)) (now (times .entry))) clock inputs (now (outputs .entry))) × (length (now (counts .exit)) ≡ 64) × (length (now (times .exit)) ≡ 32) ⌝ }
+    ensures { λ r. ⌜ ((r .taken, runOf (r .words) (now (counts .exit)) (now (times .exit)), now (outputs .exit)) ≡ movedOn (bounded (chartOf steps actions transitions blocks cases (now (initial .entry)) (now (output .entry)) (now (value .entry)) (now (sources .entry)) (now (targets .entry)) (now (on .entry)) (now (off .entry)) (now (wait .entry)) (now (blockstep .entry)) (now (blockaction .entry)) (now (qualifier .entry)) (now (duration .entry)) (now (casestep .entry)) (now (signal .entry)) (now (expected .entry)) edition)) (runOf words (now (counts .entry)) (now (times .entry))) clock inputs (now (outputs .entry))) × (length (now (counts .exit)) ≡ 64) × (length (now (times .exit)) ≡ 32) ⌝ }
 {
     let e = passes::elapsed(words.clock, clock);
     let standing = passes::step_time(words.hold, e);
@@ -100,6 +101,7 @@ pub(crate) fn step<'a>(
     let signals = passes::signals_of(inputs, words.activity);
     let choice = passes::choose(
         words.hold,
+        edition,
         transitions,
         sources,
         targets,

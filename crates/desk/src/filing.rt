@@ -94,9 +94,10 @@ pub extern "C" fn tolwaziho_read(
     casestep: &mut [u8; 64],
     signal: &mut [u8; 64],
     expected: &mut [u8; 64],
+    edition: &mut u8,
     place: &mut usize,
 ) -> u8
-    ensures { λ r. ⌜ readAs r (now (place .exit)) (chartOf (now (steps .exit)) (now (actions .exit)) (now (transitions .exit)) (now (blocks .exit)) (now (cases .exit)) (now (initial .exit)) (now (output .exit)) (now (value .exit)) (now (sources .exit)) (now (targets .exit)) (now (on .exit)) (now (off .exit)) (now (wait .exit)) (now (blockstep .exit)) (now (blockaction .exit)) (now (qualifier .exit)) (now (duration .exit)) (now (casestep .exit)) (now (signal .exit)) (now (expected .exit))) ≡ readChart (now (bytes .entry)) ⌝ }
+    ensures { λ r. ⌜ readAs r (now (place .exit)) (chartOf (now (steps .exit)) (now (actions .exit)) (now (transitions .exit)) (now (blocks .exit)) (now (cases .exit)) (now (initial .exit)) (now (output .exit)) (now (value .exit)) (now (sources .exit)) (now (targets .exit)) (now (on .exit)) (now (off .exit)) (now (wait .exit)) (now (blockstep .exit)) (now (blockaction .exit)) (now (qualifier .exit)) (now (duration .exit)) (now (casestep .exit)) (now (signal .exit)) (now (expected .exit)) (now (edition .exit))) ≡ readChart (now (bytes .entry)) ⌝ }
 {
     let r = reader::read_into(
         bytes,
@@ -121,6 +122,7 @@ pub extern "C" fn tolwaziho_read(
     *transitions = r.transitions;
     *blocks = r.blocks;
     *cases = r.cases;
+    *edition = r.edition;
     *place = r.place;
     r.code
 }
@@ -148,8 +150,9 @@ pub extern "C" fn tolwaziho_test<'a>(
     casestep: &'a [u8; 64],
     signal: &'a [u8; 64],
     expected: &'a [u8; 64],
+    edition: u8,
 ) -> u8
-    ensures { λ r. ⌜ r ≡ chartCode (chartOf steps actions transitions blocks cases (now (initial .entry)) (now (output .entry)) (now (value .entry)) (now (sources .entry)) (now (targets .entry)) (now (on .entry)) (now (off .entry)) (now (wait .entry)) (now (blockstep .entry)) (now (blockaction .entry)) (now (qualifier .entry)) (now (duration .entry)) (now (casestep .entry)) (now (signal .entry)) (now (expected .entry))) ⌝ }
+    ensures { λ r. ⌜ r ≡ chartCode (chartOf steps actions transitions blocks cases (now (initial .entry)) (now (output .entry)) (now (value .entry)) (now (sources .entry)) (now (targets .entry)) (now (on .entry)) (now (off .entry)) (now (wait .entry)) (now (blockstep .entry)) (now (blockaction .entry)) (now (qualifier .entry)) (now (duration .entry)) (now (casestep .entry)) (now (signal .entry)) (now (expected .entry)) edition) ⌝ }
 {
     chart::held_code(
         steps,
@@ -171,6 +174,7 @@ pub extern "C" fn tolwaziho_test<'a>(
         casestep,
         signal,
         expected,
+        edition,
     )
 }
 
@@ -197,10 +201,11 @@ pub extern "C" fn tolwaziho_write<'a>(
     casestep: &'a [u8; 64],
     signal: &'a [u8; 64],
     expected: &'a [u8; 64],
+    edition: u8,
     bytes: &mut [u8],
     length: &mut usize,
 ) -> u8
-    ensures { λ r. ⌜ _≡_ {A = Writing × List ℕ} (writtenAs r (now (length .exit)), now (bytes .exit)) (writeChart (chartOf steps actions transitions blocks cases (now (initial .entry)) (now (output .entry)) (now (value .entry)) (now (sources .entry)) (now (targets .entry)) (now (on .entry)) (now (off .entry)) (now (wait .entry)) (now (blockstep .entry)) (now (blockaction .entry)) (now (qualifier .entry)) (now (duration .entry)) (now (casestep .entry)) (now (signal .entry)) (now (expected .entry))) (now (bytes .entry))) ⌝ }
+    ensures { λ r. ⌜ _≡_ {A = Writing × List ℕ} (writtenAs r (now (length .exit)), now (bytes .exit)) (writeChart (chartOf steps actions transitions blocks cases (now (initial .entry)) (now (output .entry)) (now (value .entry)) (now (sources .entry)) (now (targets .entry)) (now (on .entry)) (now (off .entry)) (now (wait .entry)) (now (blockstep .entry)) (now (blockaction .entry)) (now (qualifier .entry)) (now (duration .entry)) (now (casestep .entry)) (now (signal .entry)) (now (expected .entry)) edition) (now (bytes .entry))) ⌝ }
 {
     let w = writer::write_on(
         steps,
@@ -223,6 +228,7 @@ pub extern "C" fn tolwaziho_write<'a>(
         casestep,
         signal,
         expected,
+        edition,
         bytes,
     );
     *length = w.length;

@@ -30,6 +30,7 @@ pub extern "C" fn tolwaziho_tally<'a>(
     casestep: &'a [u8; 64],
     signal: &'a [u8; 64],
     expected: &'a [u8; 64],
+    edition: u8,
     clock: u32,
     active: u64,
     activity: u64,
@@ -44,7 +45,7 @@ pub extern "C" fn tolwaziho_tally<'a>(
     failed: &mut usize,
     notrun: &mut usize,
 ) -> u8
-    ensures { λ r. ⌜ talliedAs r (now (passed .exit)) (now (failed .exit)) (now (notrun .exit)) ≡ tallyOf (chartOf steps actions transitions blocks cases (now (initial .entry)) (now (output .entry)) (now (value .entry)) (now (sources .entry)) (now (targets .entry)) (now (on .entry)) (now (off .entry)) (now (wait .entry)) (now (blockstep .entry)) (now (blockaction .entry)) (now (qualifier .entry)) (now (duration .entry)) (now (casestep .entry)) (now (signal .entry)) (now (expected .entry))) (runOf (wordsAt clock active activity stored latched good bad hold) (now (counters .entry)) (now (timers .entry))) ⌝ }
+    ensures { λ r. ⌜ talliedAs r (now (passed .exit)) (now (failed .exit)) (now (notrun .exit)) ≡ tallyOf (chartOf steps actions transitions blocks cases (now (initial .entry)) (now (output .entry)) (now (value .entry)) (now (sources .entry)) (now (targets .entry)) (now (on .entry)) (now (off .entry)) (now (wait .entry)) (now (blockstep .entry)) (now (blockaction .entry)) (now (qualifier .entry)) (now (duration .entry)) (now (casestep .entry)) (now (signal .entry)) (now (expected .entry)) edition) (runOf (wordsAt clock active activity stored latched good bad hold) (now (counters .entry)) (now (timers .entry))) ⌝ }
 {
     let words = Words {
         clock,
@@ -77,6 +78,7 @@ pub extern "C" fn tolwaziho_tally<'a>(
         casestep,
         signal,
         expected,
+        edition,
         words,
         counters,
         timers,
@@ -110,11 +112,12 @@ pub extern "C" fn tolwaziho_weigh<'a>(
     casestep: &'a [u8; 64],
     signal: &'a [u8; 64],
     expected: &'a [u8; 64],
+    edition: u8,
     weights: &'a [u16],
     transition: &mut usize,
     total: &mut u32,
 ) -> u8
-    ensures { λ r. ⌜ weighedAs r (now (transition .exit)) (now (total .exit)) ≡ weighOf (chartOf steps actions transitions blocks cases (now (initial .entry)) (now (output .entry)) (now (value .entry)) (now (sources .entry)) (now (targets .entry)) (now (on .entry)) (now (off .entry)) (now (wait .entry)) (now (blockstep .entry)) (now (blockaction .entry)) (now (qualifier .entry)) (now (duration .entry)) (now (casestep .entry)) (now (signal .entry)) (now (expected .entry))) (now (weights .entry)) ⌝ }
+    ensures { λ r. ⌜ weighedAs r (now (transition .exit)) (now (total .exit)) ≡ weighOf (chartOf steps actions transitions blocks cases (now (initial .entry)) (now (output .entry)) (now (value .entry)) (now (sources .entry)) (now (targets .entry)) (now (on .entry)) (now (off .entry)) (now (wait .entry)) (now (blockstep .entry)) (now (blockaction .entry)) (now (qualifier .entry)) (now (duration .entry)) (now (casestep .entry)) (now (signal .entry)) (now (expected .entry)) edition) (now (weights .entry)) ⌝ }
 {
     let w = tally::weigh_on(
         steps,
@@ -137,6 +140,7 @@ pub extern "C" fn tolwaziho_weigh<'a>(
         casestep,
         signal,
         expected,
+        edition,
         weights,
     );
     *transition = w.transition;

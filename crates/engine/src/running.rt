@@ -10,29 +10,6 @@ ghost use Rattle.engine.specs.Lent.{left, shiftLeft};
 use chart::Chart;
 use run::Words;
 
-fn put_words(
-    words: Words,
-    clock: &mut u32,
-    active: &mut u64,
-    activity: &mut u64,
-    stored: &mut u64,
-    latched: &mut u64,
-    good: &mut u64,
-    bad: &mut u64,
-    hold: &mut u8,
-)
-    ensures { λ _. ⌜ wordsAt (now (clock .exit)) (now (active .exit)) (now (activity .exit)) (now (stored .exit)) (now (latched .exit)) (now (good .exit)) (now (bad .exit)) (now (hold .exit)) ≡ words ⌝ }
-{
-    *clock = words.clock;
-    *active = words.active;
-    *activity = words.activity;
-    *stored = words.stored;
-    *latched = words.latched;
-    *good = words.good;
-    *bad = words.bad;
-    *hold = words.hold;
-}
-
 // Start: the number.
 #[no_mangle]
 pub extern "C" fn tolwaziho_start<'a>(
@@ -56,6 +33,7 @@ pub extern "C" fn tolwaziho_start<'a>(
     casestep: &'a [u8; 64],
     signal: &'a [u8; 64],
     expected: &'a [u8; 64],
+    edition: u8,
     clock: &mut u32,
     active: &mut u64,
     activity: &mut u64,
@@ -69,7 +47,7 @@ pub extern "C" fn tolwaziho_start<'a>(
     new: u32,
     outputs: &mut [i32],
 ) -> u8
-    ensures { λ r. ⌜ (r, 0, noReasons, (wordsAt (now (clock .exit)) (now (active .exit)) (now (activity .exit)) (now (stored .exit)) (now (latched .exit)) (now (good .exit)) (now (bad .exit)) (now (hold .exit)), now (counters .exit), now (timers .exit)), now (outputs .exit)) ≡ left (startOn (chartOf steps actions transitions blocks cases (now (initial .entry)) (now (output .entry)) (now (value .entry)) (now (sources .entry)) (now (targets .entry)) (now (on .entry)) (now (off .entry)) (now (wait .entry)) (now (blockstep .entry)) (now (blockaction .entry)) (now (qualifier .entry)) (now (duration .entry)) (now (casestep .entry)) (now (signal .entry)) (now (expected .entry))) new (now (outputs .entry))) ⌝ }
+    ensures { λ r. ⌜ (r, 0, noReasons, (wordsAt (now (clock .exit)) (now (active .exit)) (now (activity .exit)) (now (stored .exit)) (now (latched .exit)) (now (good .exit)) (now (bad .exit)) (now (hold .exit)), now (counters .exit), now (timers .exit)), now (outputs .exit)) ≡ left (startOn (chartOf steps actions transitions blocks cases (now (initial .entry)) (now (output .entry)) (now (value .entry)) (now (sources .entry)) (now (targets .entry)) (now (on .entry)) (now (off .entry)) (now (wait .entry)) (now (blockstep .entry)) (now (blockaction .entry)) (now (qualifier .entry)) (now (duration .entry)) (now (casestep .entry)) (now (signal .entry)) (now (expected .entry)) edition) new (now (outputs .entry))) ⌝ }
 {
     let o = calls::start_on(
         steps,
@@ -92,10 +70,11 @@ pub extern "C" fn tolwaziho_start<'a>(
         casestep,
         signal,
         expected,
+        edition,
         new,
         outputs,
     );
-    put_words(
+    run::put_words(
         o.words,
         clock,
         active,
@@ -134,6 +113,7 @@ pub extern "C" fn tolwaziho_cycle<'a>(
     casestep: &'a [u8; 64],
     signal: &'a [u8; 64],
     expected: &'a [u8; 64],
+    edition: u8,
     clock: &mut u32,
     active: &mut u64,
     activity: &mut u64,
@@ -150,7 +130,7 @@ pub extern "C" fn tolwaziho_cycle<'a>(
     taken: &mut u64,
     reasons: &mut [u8; 64],
 ) -> u8
-    ensures { λ r. ⌜ (r, now (taken .exit), now (reasons .exit), (wordsAt (now (clock .exit)) (now (active .exit)) (now (activity .exit)) (now (stored .exit)) (now (latched .exit)) (now (good .exit)) (now (bad .exit)) (now (hold .exit)), now (counters .exit), now (timers .exit)), now (outputs .exit)) ≡ left (cycleOn (chartOf steps actions transitions blocks cases (now (initial .entry)) (now (output .entry)) (now (value .entry)) (now (sources .entry)) (now (targets .entry)) (now (on .entry)) (now (off .entry)) (now (wait .entry)) (now (blockstep .entry)) (now (blockaction .entry)) (now (qualifier .entry)) (now (duration .entry)) (now (casestep .entry)) (now (signal .entry)) (now (expected .entry))) (runOf (wordsAt (now (clock .entry)) (now (active .entry)) (now (activity .entry)) (now (stored .entry)) (now (latched .entry)) (now (good .entry)) (now (bad .entry)) (now (hold .entry))) (now (counters .entry)) (now (timers .entry))) new inputs (now (outputs .entry))) ⌝ }
+    ensures { λ r. ⌜ (r, now (taken .exit), now (reasons .exit), (wordsAt (now (clock .exit)) (now (active .exit)) (now (activity .exit)) (now (stored .exit)) (now (latched .exit)) (now (good .exit)) (now (bad .exit)) (now (hold .exit)), now (counters .exit), now (timers .exit)), now (outputs .exit)) ≡ left (cycleOn (chartOf steps actions transitions blocks cases (now (initial .entry)) (now (output .entry)) (now (value .entry)) (now (sources .entry)) (now (targets .entry)) (now (on .entry)) (now (off .entry)) (now (wait .entry)) (now (blockstep .entry)) (now (blockaction .entry)) (now (qualifier .entry)) (now (duration .entry)) (now (casestep .entry)) (now (signal .entry)) (now (expected .entry)) edition) (runOf (wordsAt (now (clock .entry)) (now (active .entry)) (now (activity .entry)) (now (stored .entry)) (now (latched .entry)) (now (good .entry)) (now (bad .entry)) (now (hold .entry))) (now (counters .entry)) (now (timers .entry))) new inputs (now (outputs .entry))) ⌝ }
 {
     let words = Words {
         clock: *clock,
@@ -163,6 +143,7 @@ pub extern "C" fn tolwaziho_cycle<'a>(
         hold: *hold,
     };
     passes::explain(
+        edition,
         transitions,
         sources,
         targets,
@@ -199,6 +180,7 @@ pub extern "C" fn tolwaziho_cycle<'a>(
         casestep,
         signal,
         expected,
+        edition,
         words,
         counters,
         timers,
@@ -208,7 +190,7 @@ pub extern "C" fn tolwaziho_cycle<'a>(
         outputs,
     );
     passes::keep_if(o.code, reasons);
-    put_words(
+    run::put_words(
         o.words,
         clock,
         active,
@@ -246,6 +228,7 @@ pub extern "C" fn tolwaziho_shift<'a>(
     casestep: &'a [u8; 64],
     signal: &'a [u8; 64],
     expected: &'a [u8; 64],
+    edition: u8,
     clock: &mut u32,
     active: &mut u64,
     activity: &mut u64,
@@ -262,7 +245,7 @@ pub extern "C" fn tolwaziho_shift<'a>(
     outputs: &mut [i32],
     accepted: &mut usize,
 ) -> u8
-    ensures { λ r. ⌜ (r, now (accepted .exit), (wordsAt (now (clock .exit)) (now (active .exit)) (now (activity .exit)) (now (stored .exit)) (now (latched .exit)) (now (good .exit)) (now (bad .exit)) (now (hold .exit)), now (counters .exit), now (timers .exit)), now (activities .exit), now (outputs .exit)) ≡ shiftLeft (shiftOf (chartOf steps actions transitions blocks cases (now (initial .entry)) (now (output .entry)) (now (value .entry)) (now (sources .entry)) (now (targets .entry)) (now (on .entry)) (now (off .entry)) (now (wait .entry)) (now (blockstep .entry)) (now (blockaction .entry)) (now (qualifier .entry)) (now (duration .entry)) (now (casestep .entry)) (now (signal .entry)) (now (expected .entry))) (runOf (wordsAt (now (clock .entry)) (now (active .entry)) (now (activity .entry)) (now (stored .entry)) (now (latched .entry)) (now (good .entry)) (now (bad .entry)) (now (hold .entry))) (now (counters .entry)) (now (timers .entry))) (now (clocks .entry)) (now (inputs .entry)) (now (activities .entry)) (now (outputs .entry))) ⌝ }
+    ensures { λ r. ⌜ (r, now (accepted .exit), (wordsAt (now (clock .exit)) (now (active .exit)) (now (activity .exit)) (now (stored .exit)) (now (latched .exit)) (now (good .exit)) (now (bad .exit)) (now (hold .exit)), now (counters .exit), now (timers .exit)), now (activities .exit), now (outputs .exit)) ≡ shiftLeft (shiftOf (chartOf steps actions transitions blocks cases (now (initial .entry)) (now (output .entry)) (now (value .entry)) (now (sources .entry)) (now (targets .entry)) (now (on .entry)) (now (off .entry)) (now (wait .entry)) (now (blockstep .entry)) (now (blockaction .entry)) (now (qualifier .entry)) (now (duration .entry)) (now (casestep .entry)) (now (signal .entry)) (now (expected .entry)) edition) (runOf (wordsAt (now (clock .entry)) (now (active .entry)) (now (activity .entry)) (now (stored .entry)) (now (latched .entry)) (now (good .entry)) (now (bad .entry)) (now (hold .entry))) (now (counters .entry)) (now (timers .entry))) (now (clocks .entry)) (now (inputs .entry)) (now (activities .entry)) (now (outputs .entry))) ⌝ }
 {
     let words = Words {
         clock: *clock,
@@ -297,6 +280,7 @@ pub extern "C" fn tolwaziho_shift<'a>(
         casestep,
         signal,
         expected,
+        edition,
         words,
         counters,
         timers,
@@ -305,7 +289,7 @@ pub extern "C" fn tolwaziho_shift<'a>(
         activities,
         outputs,
     );
-    put_words(
+    run::put_words(
         o.words,
         clock,
         active,
@@ -343,6 +327,7 @@ pub extern "C" fn tolwaziho_advance<'a>(
     casestep: &'a [u8; 64],
     signal: &'a [u8; 64],
     expected: &'a [u8; 64],
+    edition: u8,
     clock: &mut u32,
     active: &mut u64,
     activity: &mut u64,
@@ -359,7 +344,7 @@ pub extern "C" fn tolwaziho_advance<'a>(
     taken: &mut u64,
     reasons: &mut [u8; 64],
 ) -> u8
-    ensures { λ r. ⌜ (r, now (taken .exit), now (reasons .exit), (wordsAt (now (clock .exit)) (now (active .exit)) (now (activity .exit)) (now (stored .exit)) (now (latched .exit)) (now (good .exit)) (now (bad .exit)) (now (hold .exit)), now (counters .exit), now (timers .exit)), now (outputs .exit)) ≡ left (cycleOn (chartOf steps actions transitions blocks cases (now (initial .entry)) (now (output .entry)) (now (value .entry)) (now (sources .entry)) (now (targets .entry)) (now (on .entry)) (now (off .entry)) (now (wait .entry)) (now (blockstep .entry)) (now (blockaction .entry)) (now (qualifier .entry)) (now (duration .entry)) (now (casestep .entry)) (now (signal .entry)) (now (expected .entry))) (runOf (wordsAt (now (clock .entry)) (now (active .entry)) (now (activity .entry)) (now (stored .entry)) (now (latched .entry)) (now (good .entry)) (now (bad .entry)) (now (hold .entry))) (now (counters .entry)) (now (timers .entry))) new inputs (now (outputs .entry))) ⌝ }
+    ensures { λ r. ⌜ (r, now (taken .exit), now (reasons .exit), (wordsAt (now (clock .exit)) (now (active .exit)) (now (activity .exit)) (now (stored .exit)) (now (latched .exit)) (now (good .exit)) (now (bad .exit)) (now (hold .exit)), now (counters .exit), now (timers .exit)), now (outputs .exit)) ≡ left (cycleOn (chartOf steps actions transitions blocks cases (now (initial .entry)) (now (output .entry)) (now (value .entry)) (now (sources .entry)) (now (targets .entry)) (now (on .entry)) (now (off .entry)) (now (wait .entry)) (now (blockstep .entry)) (now (blockaction .entry)) (now (qualifier .entry)) (now (duration .entry)) (now (casestep .entry)) (now (signal .entry)) (now (expected .entry)) edition) (runOf (wordsAt (now (clock .entry)) (now (active .entry)) (now (activity .entry)) (now (stored .entry)) (now (latched .entry)) (now (good .entry)) (now (bad .entry)) (now (hold .entry))) (now (counters .entry)) (now (timers .entry))) new inputs (now (outputs .entry))) ⌝ }
 {
     let words = Words {
         clock: *clock,
@@ -392,6 +377,7 @@ pub extern "C" fn tolwaziho_advance<'a>(
         casestep: *casestep,
         signal: *signal,
         expected: *expected,
+        edition,
     };
     let o = lent::lent_cycle(
         chart,
@@ -405,7 +391,7 @@ pub extern "C" fn tolwaziho_advance<'a>(
     let counted = run.counters;
     let timed = run.timers;
     let waiting = o.reasons;
-    put_words(
+    run::put_words(
         after,
         clock,
         active,

@@ -5,7 +5,7 @@ use mathlib.Core.Path.{_≡_}
 use lib.Dec.{eqb}
 use Rattle.sets.specs.Loops.{orElse}
 use Rattle.sets.proofs.Unique.{one-answer}
-use Rattle.fields.specs.Fields.{timed, unless, stepFits, actionFits, transitionCode, durationFits, blockFits, caseFits}
+use Rattle.fields.specs.Fields.{timed, unless, kindFits, stepFits, actionFits, transitionCode, durationFits, blockFits, caseFits, editionFits, second}
 
 pub is-timed-unique : (q : ℕ) (r p : Bool) → r ≡ timed q → p ≡ timed q → r ≡ p
 is-timed-unique q r p = one-answer
@@ -15,6 +15,9 @@ or-else-unique a b r q = one-answer
 
 pub unless-unique : (ok : Bool) (n r q : ℕ) → r ≡ unless ok n → q ≡ unless ok n → r ≡ q
 unless-unique ok n r q = one-answer
+
+pub kind-fits-unique : (k before : ℕ) (r q : Bool) → r ≡ kindFits k before → q ≡ kindFits k before → r ≡ q
+kind-fits-unique k before r q = one-answer
 
 pub step-fits-unique : (i : ℕ) (r q : Bool) → r ≡ stepFits i → q ≡ stepFits i → r ≡ q
 step-fits-unique i r q = one-answer
@@ -36,3 +39,9 @@ block-fits-unique s a k l n d r q = one-answer
 
 pub case-fits-unique : (s a k n e : ℕ) (r q : Bool) → r ≡ caseFits s a k n e → q ≡ caseFits s a k n e → r ≡ q
 case-fits-unique s a k n e r q = one-answer
+
+pub edition-fits-unique : (e : ℕ) (r q : Bool) → r ≡ editionFits e → q ≡ editionFits e → r ≡ q
+edition-fits-unique e r q = one-answer
+
+pub is-second-unique : (e : ℕ) (r q : Bool) → r ≡ second e → q ≡ second e → r ≡ q
+is-second-unique e r q = one-answer

@@ -1,4 +1,4 @@
--- What a record's fields must be, kind by kind, and the number of refusal otherwise. The reader and the held test both go by these.
+-- What a record's kind and its fields must be, kind by kind, and the number of refusal otherwise. The reader and the held test both go by these.
 use Prim.Native.Nat.{ℕ, _+_}
 use mathlib.Core.Bool.{Bool, _&&_, _||_, not, cond}
 use lib.Dec.{leb, ltb, eqb}
@@ -51,6 +51,10 @@ longest = 86400000
 abbrev pub unless : Bool → ℕ → ℕ
 unless ok n = cond ok 0 n
 
+-- not "kind above 5, or smaller than the kind before it (kind 0 excepted)"; document 02, request (viii): "2 now means a kind above 6"
+abbrev pub kindFits : ℕ → ℕ → Bool
+kindFits k before = leb k 6 && (eqb k 0 || leb before k)
+
 -- "1 initial, 0 not"
 abbrev pub stepFits : ℕ → Bool
 stepFits initial = leb initial 1
@@ -95,3 +99,11 @@ blockFits steps actions step action qualifier duration = blockNames steps action
 abbrev pub caseFits : ℕ → ℕ → ℕ → ℕ → ℕ → Bool
 caseFits steps actions step signal expected =
     ltb step steps && ltb signal 64 && signalExists signal actions && leb expected 1
+
+-- document 02, request (viii): "A held chart says 1 or 2."
+abbrev pub editionFits : ℕ → Bool
+editionFits edition = eqb edition 1 || eqb edition 2
+
+-- the second edition, which a file says by "one byte with the value 2"
+abbrev pub second : ℕ → Bool
+second edition = eqb edition 2

@@ -5,7 +5,7 @@ ghost use Prim.Native.Nat.{_+_};
 ghost use lib.Dec.{eqb};
 ghost use Rattle.sets.specs.Loops.{orElse};
 ghost use Rattle.sets.specs.Sets.{beyond};
-ghost use Rattle.fields.specs.Fields.{timed, unless, stepFits, actionFits, signalExists, transitionFits, transitionCode, durationFits, blockFits, caseFits};
+ghost use Rattle.fields.specs.Fields.{timed, unless, kindFits, stepFits, actionFits, signalExists, transitionFits, transitionCode, durationFits, blockFits, caseFits, editionFits, second};
 
 pub mod codes;
 
@@ -35,6 +35,13 @@ pub fn unless(ok: bool, code: u8) -> u8
     ensures { λ r. ⌜ r ≡ unless ok code ⌝ }
 {
     if ok { 0 } else { code }
+}
+
+// A record's kind, after the kind before it.
+pub fn kind_fits(kind: u16, before: u16) -> bool
+    ensures { λ r. ⌜ r ≡ kindFits kind before ⌝ }
+{
+    (kind <= 6) & ((kind == 0) | (before <= kind))
 }
 
 pub fn step_fits(initial: u8) -> bool
@@ -150,4 +157,18 @@ pub fn case_fits(steps: usize, actions: usize, step: u8, signal: u8, expected: u
     ensures { λ r. ⌜ r ≡ caseFits steps actions step signal expected ⌝ }
 {
     ((step as usize) < steps) & (signal < 64) & signal_exists(signal, actions) & (expected <= 1)
+}
+
+// The edition of a held chart (document 02, request viii).
+pub fn edition_fits(edition: u8) -> bool
+    ensures { λ r. ⌜ r ≡ editionFits edition ⌝ }
+{
+    (edition == 1) | (edition == 2)
+}
+
+// The byte that a file may have for it, and where the stepping differs.
+pub fn is_second(edition: u8) -> bool
+    ensures { λ r. ⌜ r ≡ second edition ⌝ }
+{
+    edition == 2
 }

@@ -81,6 +81,7 @@ pub extern "C" fn tolwaziho_turn<'a>(
     casestep: &'a [u8; 64],
     signal: &'a [u8; 64],
     expected: &'a [u8; 64],
+    edition: u8,
     clock: u32,
     active: u64,
     activity: u64,
@@ -93,7 +94,7 @@ pub extern "C" fn tolwaziho_turn<'a>(
     hold: &mut u8,
     held: bool,
 ) -> u8
-    ensures { λ r. ⌜ turnedAs r (runOf (wordsAt clock active activity stored latched good bad (now (hold .exit))) (now (counters .entry)) (now (timers .entry))) ≡ turnOf held (chartOf steps actions transitions blocks cases (now (initial .entry)) (now (output .entry)) (now (value .entry)) (now (sources .entry)) (now (targets .entry)) (now (on .entry)) (now (off .entry)) (now (wait .entry)) (now (blockstep .entry)) (now (blockaction .entry)) (now (qualifier .entry)) (now (duration .entry)) (now (casestep .entry)) (now (signal .entry)) (now (expected .entry))) (runOf (wordsAt clock active activity stored latched good bad (now (hold .entry))) (now (counters .entry)) (now (timers .entry))) ⌝ }
+    ensures { λ r. ⌜ turnedAs r (runOf (wordsAt clock active activity stored latched good bad (now (hold .exit))) (now (counters .entry)) (now (timers .entry))) ≡ turnOf held (chartOf steps actions transitions blocks cases (now (initial .entry)) (now (output .entry)) (now (value .entry)) (now (sources .entry)) (now (targets .entry)) (now (on .entry)) (now (off .entry)) (now (wait .entry)) (now (blockstep .entry)) (now (blockaction .entry)) (now (qualifier .entry)) (now (duration .entry)) (now (casestep .entry)) (now (signal .entry)) (now (expected .entry)) edition) (runOf (wordsAt clock active activity stored latched good bad (now (hold .entry))) (now (counters .entry)) (now (timers .entry))) ⌝ }
 {
     let words = Words {
         clock,
@@ -125,6 +126,7 @@ pub extern "C" fn tolwaziho_turn<'a>(
         casestep,
         signal,
         expected,
+        edition,
     );
     let code = belongs::own_code(number, words, counters, timers, steps, actions, cases);
     *hold = mark_after(code, words.hold, held);

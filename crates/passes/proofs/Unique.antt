@@ -24,9 +24,9 @@ elapsed-unique last new r q = one-answer
 pub step-time-unique : (hold e r q : ℕ) → r ≡ stepTime hold e → q ≡ stepTime hold e → r ≡ q
 step-time-unique hold e r q = one-answer
 
-pub choose-unique : (hold n : ℕ) (sources targets on off wait counts : List ℕ) (active signals : ℕ) (r q : Choice)
-    → r ≡ chosenUnder hold n sources targets on off wait counts active signals → q ≡ chosenUnder hold n sources targets on off wait counts active signals → r ≡ q
-choose-unique hold n sources targets on off wait counts active signals r q = one-answer
+pub choose-unique : (hold edition n : ℕ) (sources targets on off wait counts : List ℕ) (active signals : ℕ) (r q : Choice)
+    → r ≡ chosenUnder hold edition n sources targets on off wait counts active signals → q ≡ chosenUnder hold edition n sources targets on off wait counts active signals → r ≡ q
+choose-unique hold edition n sources targets on off wait counts active signals r q = one-answer
 
 pub steps-of-unique : (active : ℕ) (choice : Choice) (r q : Steps) → r ≡ stepsOf active choice → q ≡ stepsOf active choice → r ≡ q
 steps-of-unique active choice r q = one-answer
@@ -47,10 +47,10 @@ pub write-outputs-unique : (n : ℕ) (output : List ℕ) (value : List ℤ) (act
     → f ≡ written n output value activity out → g ≡ written n output value activity out → f ≡ g
 write-outputs-unique n output value activity out f g = one-answer
 
-pub explain-unique : (n : ℕ) (sources targets on off wait counts : List ℕ) (words : Words) (clock inputs : ℕ) (f g : List ℕ)
-    → f ≡ reasonsOf (words .hold) n sources targets on off wait (grownCounts (countersOf counts) (words .active) (stepTime (words .hold) (elapsed (words .clock) clock))) (words .active) (signalsOf inputs (words .activity))
-    → g ≡ reasonsOf (words .hold) n sources targets on off wait (grownCounts (countersOf counts) (words .active) (stepTime (words .hold) (elapsed (words .clock) clock))) (words .active) (signalsOf inputs (words .activity)) → f ≡ g
-explain-unique n sources targets on off wait counts words clock inputs f g = one-answer
+pub explain-unique : (edition n : ℕ) (sources targets on off wait counts : List ℕ) (words : Words) (clock inputs : ℕ) (f g : List ℕ)
+    → f ≡ reasonsOf (words .hold) edition n sources targets on off wait (grownCounts (countersOf counts) (words .active) (stepTime (words .hold) (elapsed (words .clock) clock))) (words .active) (signalsOf inputs (words .activity))
+    → g ≡ reasonsOf (words .hold) edition n sources targets on off wait (grownCounts (countersOf counts) (words .active) (stepTime (words .hold) (elapsed (words .clock) clock))) (words .active) (signalsOf inputs (words .activity)) → f ≡ g
+explain-unique edition n sources targets on off wait counts words clock inputs f g = one-answer
 
 pub keep-if-unique : (code : ℕ) (reasons f g : List ℕ) → f ≡ keptIf code reasons → g ≡ keptIf code reasons → f ≡ g
 keep-if-unique code reasons f g = one-answer

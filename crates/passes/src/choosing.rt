@@ -8,6 +8,7 @@ use choice::Choice;
 
 pub fn choose<'a>(
     hold: u8,
+    edition: u8,
     n: usize,
     sources: &'a [u64; 64],
     targets: &'a [u64; 64],
@@ -18,7 +19,7 @@ pub fn choose<'a>(
     active: u64,
     signals: u64,
 ) -> Choice
-    ensures { λ r. ⌜ r ≡ chosenUnder hold (min n 64) (now (sources .entry)) (now (targets .entry)) (now (on .entry)) (now (off .entry)) (now (wait .entry)) (now (counts .entry)) active signals ⌝ }
+    ensures { λ r. ⌜ r ≡ chosenUnder hold edition (min n 64) (now (sources .entry)) (now (targets .entry)) (now (on .entry)) (now (off .entry)) (now (wait .entry)) (now (counts .entry)) active signals ⌝ }
 {
     let mut choice = Choice {
         taken: 0,
@@ -32,6 +33,7 @@ pub fn choose<'a>(
     let mut t = 0;
     while t < last {
         choice = choice::choose_one(
+            edition,
             choice,
             t,
             sources[t],
@@ -48,15 +50,15 @@ pub fn choose<'a>(
     choice
 }
 
-// Paragraph 3: sources of taken transitions are left, targets entered.
+// Paragraph 3: sources of taken transitions are left, targets entered unless they stayed active. Those that stayed run on.
 pub fn steps_of(active: u64, choice: Choice) -> Steps
     ensures { λ r. ⌜ r ≡ stepsOf active choice ⌝ }
 {
-    let after = sets::joined(sets::without(active, choice.left), choice.claimed);
+    let stayed = sets::without(active, choice.left);
     Steps {
-        active: after,
-        entered: choice.claimed,
+        active: sets::joined(stayed, choice.claimed),
+        entered: sets::without(choice.claimed, stayed),
         left: choice.left,
-        kept: sets::without(after, choice.claimed),
+        kept: stayed,
     }
 }

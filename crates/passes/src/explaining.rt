@@ -11,6 +11,7 @@ use crate::time;
 use run::Words;
 
 pub fn explain<'a>(
+    edition: u8,
     transitions: usize,
     sources: &'a [u64; 64],
     targets: &'a [u64; 64],
@@ -23,7 +24,7 @@ pub fn explain<'a>(
     inputs: u32,
     reasons: &mut [u8; 64],
 )
-    ensures { λ _. ⌜ now (reasons .exit) ≡ reasonsOf (words .hold) transitions (now (sources .entry)) (now (targets .entry)) (now (on .entry)) (now (off .entry)) (now (wait .entry)) (grownCounts (countersOf (now (counts .entry))) (words .active) (stepTime (words .hold) (elapsed (words .clock) clock))) (words .active) (signalsOf inputs (words .activity)) ⌝ }
+    ensures { λ _. ⌜ now (reasons .exit) ≡ reasonsOf (words .hold) edition transitions (now (sources .entry)) (now (targets .entry)) (now (on .entry)) (now (off .entry)) (now (wait .entry)) (grownCounts (countersOf (now (counts .entry))) (words .active) (stepTime (words .hold) (elapsed (words .clock) clock))) (words .active) (signalsOf inputs (words .activity)) ⌝ }
 {
     if words.hold == 1 {
         choice::hold_all(transitions, reasons);
@@ -33,6 +34,7 @@ pub fn explain<'a>(
     let grown = time::grown_counts(counts, words.active, e);
     let signals = moving::signals_of(inputs, words.activity);
     choice::explain(
+        edition,
         transitions,
         sources,
         targets,

@@ -33,6 +33,7 @@ answerOf r = let c = r .chart in record {
   transitions = c .transitions;
   blocks = c .blocks;
   cases = c .cases;
+  edition = c .edition;
 }
 
 abbrev tablesOf : Reading → Tables

@@ -7,21 +7,23 @@ use lib.Dec.{ltb, eqb}
 use mir.Syntax.{w32}
 use mir.Val.{toZ, ofZ}
 use Rattle.sets.specs.Loops.{orElse}
-use Rattle.fields.specs.Fields.{unless, stepFits, actionFits, transitionCode, blockFits, caseFits}
+use Rattle.fields.specs.Fields.{unless, stepFits, actionFits, transitionCode, blockFits, caseFits, second}
 use Rattle.reader.specs.Numbers.{numbersAt}
 use Rattle.reader.specs.Framing.{widths, recordBytes}
 use Rattle.reader.specs.declared.bodies.Body.{Body}
-use Rattle.reader.specs.declared.bodies.Body.the-variants.{Step, Action, Transition, Block, Case}
+use Rattle.reader.specs.declared.bodies.Body.the-variants.{Step, Action, Transition, Block, Case, Edition}
 
 -- a body of kind k from its fields: "1 initial, 0 not"; "output 0..31; value, signed 32 bits"; "sources, targets, on, off (64-bit sets, bit k
--- is number k); wait in ms (32 bits)"; "step, action, qualifier (a byte each); duration in ms (32 bits)"; "step, signal 0..63, expected 0 or 1"
+-- is number k); wait in ms (32 bits)"; "step, action, qualifier (a byte each); duration in ms (32 bits)"; "step, signal 0..63, expected 0 or 1";
+-- document 02, request (viii): "one byte with the value 2"
 abbrev pub bodyOf : ℕ → List ℕ → Body
 bodyOf k fields =
     let x : ℕ → ℕ = λ i. getD fields i 0 in
     cond (eqb k 1) (Step (x 0))
     (cond (eqb k 2) (Action (x 0) (toZ w32 (x 1)))
     (cond (eqb k 3) (Transition (x 0) (x 1) (x 2) (x 3) (x 4))
-    (cond (eqb k 4) (Block (x 0) (x 1) (x 2) (x 3)) (Case (x 0) (x 1) (x 2)))))
+    (cond (eqb k 4) (Block (x 0) (x 1) (x 2) (x 3))
+    (cond (eqb k 5) (Case (x 0) (x 1) (x 2)) (Edition (x 0))))))
 
 -- its kind, and its fields again
 abbrev pub kindOf : Body → ℕ
@@ -30,6 +32,7 @@ kindOf (Action o v) = 2
 kindOf (Transition s t on off w) = 3
 kindOf (Block s a q d) = 4
 kindOf (Case s n e) = 5
+kindOf (Edition x) = 6
 
 abbrev pub fieldsOf : Body → List ℕ
 fieldsOf (Step i) = i ∷ []
@@ -37,6 +40,7 @@ fieldsOf (Action o v) = o ∷ ofZ w32 v ∷ []
 fieldsOf (Transition s t on off w) = s ∷ t ∷ on ∷ off ∷ w ∷ []
 fieldsOf (Block s a q d) = s ∷ a ∷ q ∷ d ∷ []
 fieldsOf (Case s n e) = s ∷ n ∷ e ∷ []
+fieldsOf (Edition x) = x ∷ []
 
 -- the body of kind k that stands at a place, and the record that a body is
 abbrev pub fieldsAt : List ℕ → ℕ → ℕ → List ℕ
@@ -52,10 +56,12 @@ recordOf b = recordBytes (kindOf b) (fieldsOf b)
 abbrev pub limited : Bool → ℕ → ℕ
 limited room code = orElse (unless room 4) code
 
--- the number of a body that is read after so many steps, actions, transitions, blocks and cases
-abbrev pub bodyCode : ℕ → ℕ → ℕ → ℕ → ℕ → Body → ℕ
-bodyCode s a t b c (Step i) = limited (ltb s 64) (unless (stepFits i) 5)
-bodyCode s a t b c (Action o v) = limited (ltb a 32) (unless (actionFits o) 5)
-bodyCode s a t b c (Transition f g on off w) = limited (ltb t 64) (transitionCode s a f g on off w)
-bodyCode s a t b c (Block k l q d) = limited (ltb b 256) (unless (blockFits s a k l q d) 5)
-bodyCode s a t b c (Case k n e) = limited (ltb c 64) (unless (caseFits s a k n e) 5)
+-- the number of a body that is read after so many steps, actions, transitions, blocks and cases, in the edition so far: the first, until the one
+-- record that "limit one" allows says the second
+abbrev pub bodyCode : ℕ → ℕ → ℕ → ℕ → ℕ → ℕ → Body → ℕ
+bodyCode s a t b c e (Step i) = limited (ltb s 64) (unless (stepFits i) 5)
+bodyCode s a t b c e (Action o v) = limited (ltb a 32) (unless (actionFits o) 5)
+bodyCode s a t b c e (Transition f g on off w) = limited (ltb t 64) (transitionCode s a f g on off w)
+bodyCode s a t b c e (Block k l q d) = limited (ltb b 256) (unless (blockFits s a k l q d) 5)
+bodyCode s a t b c e (Case k n x) = limited (ltb c 64) (unless (caseFits s a k n x) 5)
+bodyCode s a t b c e (Edition x) = limited (ltb e 2) (unless (second x) 5)

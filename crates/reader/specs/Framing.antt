@@ -2,9 +2,10 @@
 use Prim.Native.Nat.{ℕ, _+_, _-_}
 use mathlib.Core.List.{List, [], _∷_}
 use mathlib.Core.Path.{_≡_}
-use mathlib.Core.Bool.{Bool, _&&_, _||_, cond}
+use mathlib.Core.Bool.{cond}
 use lib.ListN.{length, getD}
 use lib.Dec.{leb, eqb}
+use Rattle.fields.specs.Fields.{kindFits}
 use Rattle.reader.specs.Numbers.{le, numbersBytes, total}
 use Rattle.reader.specs.declared.framing.Next.{Next}
 use Rattle.reader.specs.declared.framing.Next.the-variants.{Record, End, Refused}
@@ -17,9 +18,9 @@ kindAt s at = le 2 s (at + 2)
 
 -- the table of kinds: the widths of a body's fields in bytes, in the file's order, for whoever reads them and whoever writes them:
 -- the end; a step: initial; an action: output, value; a transition: sources, targets, on, off, wait; a block: step, action, qualifier,
--- duration; a case: step, signal, expected
+-- duration; a case: step, signal, expected; document 02, request (viii), an edition: "kind 6, one byte"
 abbrev pub widths : ℕ → List ℕ
-widths k = getD ([] ∷ (1 ∷ []) ∷ (1 ∷ 4 ∷ []) ∷ (8 ∷ 8 ∷ 8 ∷ 8 ∷ 4 ∷ []) ∷ (1 ∷ 1 ∷ 1 ∷ 4 ∷ []) ∷ (1 ∷ 1 ∷ 1 ∷ []) ∷ []) k []
+widths k = getD ([] ∷ (1 ∷ []) ∷ (1 ∷ 4 ∷ []) ∷ (8 ∷ 8 ∷ 8 ∷ 8 ∷ 4 ∷ []) ∷ (1 ∷ 1 ∷ 1 ∷ 4 ∷ []) ∷ (1 ∷ 1 ∷ 1 ∷ []) ∷ (1 ∷ []) ∷ []) k []
 
 abbrev pub bodyLength : ℕ → ℕ
 bodyLength k = total (widths k)
@@ -27,10 +28,6 @@ bodyLength k = total (widths k)
 -- "a two-byte body length, a two-byte kind, the body"
 abbrev pub recordBytes : ℕ → List ℕ → List ℕ
 recordBytes k fields = numbersBytes (2 ∷ 2 ∷ widths k) (bodyLength k ∷ k ∷ fields)
-
--- not "kind above 5, or smaller than the kind before it (kind 0 excepted)"
-abbrev pub kindFits : ℕ → ℕ → Bool
-kindFits k before = leb k 5 && (eqb k 0 || leb before k)
 
 -- the number of a head with length n and kind k, `rest` bytes after it: the kind (2), the length (3), the cut body (1)
 abbrev pub headNumber : ℕ → ℕ → ℕ → ℕ → ℕ

@@ -5,13 +5,13 @@ use mathlib.Core.Bool.{cond}
 use lib.IntN.{ℤ}
 use lib.ListN.{length}
 use lib.Dec.{ltb, eqb}
-use Rattle.chart.specs.Chart.{chartOf, noChart, withStep, withAction, withTransition, withBlock, withCase}
+use Rattle.chart.specs.Chart.{chartOf, emptyChart, noChart, withStep, withAction, withTransition, withBlock, withCase, withEdition}
 use Rattle.chart.specs.Held.{closingCode}
 use Rattle.chart.specs.declared.chart.Chart.{Chart}
 use Rattle.reader.specs.Framing.{lengthAt, kindAt, recordNumber}
 use Rattle.reader.specs.Bodies.{bodyAt, bodyCode}
 use Rattle.reader.specs.declared.bodies.Body.{Body}
-use Rattle.reader.specs.declared.bodies.Body.the-variants.{Step, Action, Transition, Block, Case}
+use Rattle.reader.specs.declared.bodies.Body.the-variants.{Step, Action, Transition, Block, Case, Edition}
 use Rattle.reader.specs.declared.reading.Read.{Read}
 use Rattle.reader.specs.declared.reading.Reading.{Reading}
 
@@ -38,10 +38,11 @@ withBody c (Action o v) = withAction c o v
 withBody c (Transition s t on off w) = withTransition c s t on off w
 withBody c (Block s a q d) = withBlock c s a q d
 withBody c (Case s n e) = withCase c s n e
+withBody c (Edition x) = withEdition c x
 
 -- the number of a body read into the chart: 4, 5, 6, 7
 abbrev pub numberIn : Chart → Body → ℕ
-numberIn c body = bodyCode (c .steps) (c .actions) (c .transitions) (c .blocks) (c .cases) body
+numberIn c body = bodyCode (c .steps) (c .actions) (c .transitions) (c .blocks) (c .cases) (c .edition) body
 
 -- a record with a whole head and body: `onward` reads on with it put in; "the record's first byte for 1 to 7"
 abbrev pub taken : ℕ → Chart → Body → (Chart → Reading) → Reading
@@ -56,9 +57,9 @@ readFrom (suc more) s at before c =
     (taken at c (bodyAt s (kindAt s at) (at + 4)) (readFrom more s (at + 4 + lengthAt s at) (kindAt s at))))
     (refused (recordNumber s at before) at)
 
--- a record takes four bytes or more, so there are no more records than bytes
+-- a record takes four bytes or more, so there are no more records than bytes; document 02, request (viii): "absent means edition 1"
 abbrev pub readChart : List ℕ → Reading
-readChart s = readFrom (length s + 1) s 0 0 noChart
+readChart s = readFrom (length s + 1) s 0 0 (emptyChart 1)
 
 -- the tables that are lent to a reading, in the order of the chart's fields
 abbrev pub Tables : Type 0
@@ -70,5 +71,5 @@ abbrev pub readingOf : Read → Tables → Reading
 readingOf r (initial, output, value, sources, targets, on, off, wait, blockstep, blockaction, qualifier, duration, casestep, signal, expected) = record {
   code = r .code;
   place = r .place;
-  chart = chartOf (r .steps) (r .actions) (r .transitions) (r .blocks) (r .cases) initial output value sources targets on off wait blockstep blockaction qualifier duration casestep signal expected;
+  chart = chartOf (r .steps) (r .actions) (r .transitions) (r .blocks) (r .cases) initial output value sources targets on off wait blockstep blockaction qualifier duration casestep signal expected (r .edition);
 }

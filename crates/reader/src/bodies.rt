@@ -4,7 +4,7 @@ ghost use Prim.Native.Nat.{_+_, _≤_};
 ghost use lib.ListN.{length};
 ghost use Rattle.reader.specs.Framing.{bodyLength};
 ghost use Rattle.reader.specs.Bodies.{bodyOf, fieldsAt, bodyAt, limited, bodyCode};
-ghost use Rattle.reader.specs.declared.bodies.Body.the-variants.{Step, Action, Transition, Block, Case};
+ghost use Rattle.reader.specs.declared.bodies.Body.the-variants.{Step, Action, Transition, Block, Case, Edition};
 use crate::numbers;
 use chart::codes::TOO_MANY;
 use fields::codes::BAD_FIELD;
@@ -20,6 +20,8 @@ pub enum Body {
     Block(u8, u8, u8, u32),
     // step, signal, expected
     Case(u8, u8, u8),
+    // the second (document 02, request viii)
+    Edition(u8),
 }
 
 fn step_at(bytes: &[u8], at: usize) -> Body
@@ -68,8 +70,15 @@ fn case_at(bytes: &[u8], at: usize) -> Body
     Body::Case(bytes[at], bytes[at + 1], bytes[at + 2])
 }
 
+fn edition_at(bytes: &[u8], at: usize) -> Body
+    requires { ⌜ at + 1 ≤ length (now bytes) ⌝ }
+    ensures { λ r. ⌜ r ≡ bodyOf 6 (fieldsAt (now (bytes .entry)) 6 at) ⌝ }
+{
+    Body::Edition(bytes[at])
+}
+
 pub(crate) fn body_at(bytes: &[u8], kind: u16, at: usize) -> Body
-    requires { ⌜ (1 ≤ kind) × (kind ≤ 5) × (at + bodyLength kind ≤ length (now bytes)) ⌝ }
+    requires { ⌜ (1 ≤ kind) × (kind ≤ 6) × (at + bodyLength kind ≤ length (now bytes)) ⌝ }
     ensures { λ r. ⌜ r ≡ bodyAt (now (bytes .entry)) kind at ⌝ }
 {
     match kind {
@@ -77,20 +86,21 @@ pub(crate) fn body_at(bytes: &[u8], kind: u16, at: usize) -> Body
         2 => action_at(bytes, at),
         3 => transition_at(bytes, at),
         4 => block_at(bytes, at),
-        _ => case_at(bytes, at),
+        5 => case_at(bytes, at),
+        _ => edition_at(bytes, at),
     }
 }
 
 // The number of a body of each kind, read after so many of its kind: one more than the limit (4), then its fields.
 pub(crate) fn step_code(steps: usize, initial: u8) -> u8
-    ensures { λ r. ⌜ r ≡ bodyCode steps 0 0 0 0 (Step initial) ⌝ }
+    ensures { λ r. ⌜ r ≡ bodyCode steps 0 0 0 0 0 (Step initial) ⌝ }
 {
     let fits = fields::step_fits(initial);
     limited(steps < 64, fields::unless(fits, BAD_FIELD))
 }
 
 pub(crate) fn action_code(actions: usize, output: u8, value: i32) -> u8
-    ensures { λ r. ⌜ r ≡ bodyCode 0 actions 0 0 0 (Action output value) ⌝ }
+    ensures { λ r. ⌜ r ≡ bodyCode 0 actions 0 0 0 0 (Action output value) ⌝ }
 {
     let fits = fields::action_fits(output);
     limited(actions < 32, fields::unless(fits, BAD_FIELD))
@@ -106,7 +116,7 @@ pub(crate) fn transition_code(
     off: u64,
     wait: u32,
 ) -> u8
-    ensures { λ r. ⌜ r ≡ bodyCode steps actions transitions 0 0 (Transition sources targets on off wait) ⌝ }
+    ensures { λ r. ⌜ r ≡ bodyCode steps actions transitions 0 0 0 (Transition sources targets on off wait) ⌝ }
 {
     let code = fields::transition_code(steps, actions, sources, targets, on, off, wait);
     limited(transitions < 64, code)
@@ -121,7 +131,7 @@ pub(crate) fn block_code(
     qualifier: u8,
     duration: u32,
 ) -> u8
-    ensures { λ r. ⌜ r ≡ bodyCode steps actions 0 blocks 0 (Block step action qualifier duration) ⌝ }
+    ensures { λ r. ⌜ r ≡ bodyCode steps actions 0 blocks 0 0 (Block step action qualifier duration) ⌝ }
 {
     let fits = fields::block_fits(steps, actions, step, action, qualifier, duration);
     limited(blocks < 256, fields::unless(fits, BAD_FIELD))
@@ -135,10 +145,18 @@ pub(crate) fn case_code(
     signal: u8,
     expected: u8,
 ) -> u8
-    ensures { λ r. ⌜ r ≡ bodyCode steps actions 0 0 cases (Case step signal expected) ⌝ }
+    ensures { λ r. ⌜ r ≡ bodyCode steps actions 0 0 cases 0 (Case step signal expected) ⌝ }
 {
     let fits = fields::case_fits(steps, actions, step, signal, expected);
     limited(cases < 64, fields::unless(fits, BAD_FIELD))
+}
+
+// In the edition so far.
+pub(crate) fn edition_code(edition: u8, byte: u8) -> u8
+    ensures { λ r. ⌜ r ≡ bodyCode 0 0 0 0 0 edition (Edition byte) ⌝ }
+{
+    let fits = fields::is_second(byte);
+    limited(edition < 2, fields::unless(fits, BAD_FIELD))
 }
 
 fn limited(room: bool, code: u8) -> u8

@@ -1,6 +1,6 @@
 // One record: its head, and where its body stands (document 01, "A manufacturer's tool may take the reader by itself").
 ghost use mathlib.Core.Path.{_≡_};
-ghost use Rattle.reader.specs.Framing.{bodyLength, kindFits, headNumber, Answers};
+ghost use Rattle.reader.specs.Framing.{bodyLength, headNumber, Answers};
 use crate::codes::BAD_KIND;
 use crate::codes::BAD_LENGTH;
 use crate::codes::CUT;
@@ -19,12 +19,6 @@ pub enum Next {
     },
 }
 
-fn kind_fits(kind: u16, before: u16) -> bool
-    ensures { λ r. ⌜ r ≡ kindFits kind before ⌝ }
-{
-    (kind <= 5) & ((kind == 0) | (before <= kind))
-}
-
 fn body_length(kind: u16) -> u16
     ensures { λ r. ⌜ r ≡ bodyLength kind ⌝ }
 {
@@ -34,6 +28,7 @@ fn body_length(kind: u16) -> u16
         3 => 36,
         4 => 7,
         5 => 3,
+        6 => 1,
         _ => 0,
     }
 }
@@ -48,7 +43,7 @@ fn head_code(length: u16, kind: u16, rest: usize, before: u16) -> u8
         }
         return 0;
     }
-    if !kind_fits(kind, before) {
+    if !fields::kind_fits(kind, before) {
         return BAD_KIND;
     }
     if length != body_length(kind) {

@@ -8,7 +8,7 @@ use crate::framing;
 use crate::framing::Next;
 use chart::Chart;
 
-// What a reading answers beside the tables: its number, its place and the counts.
+// What a reading answers beside the tables: its number, its place, the counts and the edition.
 pub struct Read {
     pub code: u8,
     pub place: usize,
@@ -17,6 +17,7 @@ pub struct Read {
     pub transitions: usize,
     pub blocks: usize,
     pub cases: usize,
+    pub edition: u8,
 }
 
 pub struct Reading {
@@ -68,6 +69,8 @@ pub fn read_into(
     let mut transitions: usize = 0;
     let mut blocks: usize = 0;
     let mut cases: usize = 0;
+    // Until a record says the second.
+    let mut edition: u8 = 1;
     let mut at: usize = 0;
     let mut before: u16 = 0;
     // What a refused reading answers.
@@ -100,6 +103,7 @@ pub fn read_into(
                     transitions,
                     blocks,
                     cases,
+                    edition,
                 };
             }
             Next::Record {
@@ -161,6 +165,13 @@ pub fn read_into(
                         expected[cases] = e;
                         cases += 1;
                     }
+                    Body::Edition(x) => {
+                        code = bodies::edition_code(edition, x);
+                        if code != 0 {
+                            break;
+                        }
+                        edition = x;
+                    }
                 }
             }
         }
@@ -189,6 +200,7 @@ pub fn read_into(
         transitions: 0,
         blocks: 0,
         cases: 0,
+        edition: 0,
     }
 }
 
@@ -253,6 +265,7 @@ pub fn read_chart(bytes: &[u8]) -> Reading
             casestep,
             signal,
             expected,
+            edition: r.edition,
         },
     }
 }

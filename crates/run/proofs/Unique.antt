@@ -24,6 +24,10 @@ timer-longer-unique e t r q = one-answer
 pub words-of-unique : (run : Run) (r q : Words) → r ≡ wordsOf run → q ≡ wordsOf run → r ≡ q
 words-of-unique run r q = one-answer
 
+-- what is lent, since nothing is returned
+pub put-words-unique : (words r q : Words) → r ≡ words → q ≡ words → r ≡ q
+put-words-unique words r q = one-answer
+
 pub counts-of-unique : (counters : List StepCounter) (r q : List ℕ) → r ≡ countsOf counters → q ≡ countsOf counters → r ≡ q
 counts-of-unique counters r q = one-answer
 

@@ -2,7 +2,7 @@
 // reference to an array of structs is not covered).
 ghost use mathlib.Core.Path.{_≡_};
 ghost use lib.ListN.{length};
-ghost use Rattle.run.specs.Apart.{wordsOf, countsOf, timesOf, countersOf, timersOf, runOf};
+ghost use Rattle.run.specs.Apart.{wordsAt, wordsOf, countsOf, timesOf, countersOf, timersOf, runOf};
 use crate::run::ActionTimer;
 use crate::run::Run;
 use crate::run::StepCounter;
@@ -31,6 +31,30 @@ pub fn words_of(run: Run) -> Words
         bad: run.bad,
         hold: run.hold,
     }
+}
+
+// Stored one by one, where a caller lent them.
+pub fn put_words(
+    words: Words,
+    clock: &mut u32,
+    active: &mut u64,
+    activity: &mut u64,
+    stored: &mut u64,
+    latched: &mut u64,
+    good: &mut u64,
+    bad: &mut u64,
+    hold: &mut u8,
+)
+    ensures { λ _. ⌜ wordsAt (now (clock .exit)) (now (active .exit)) (now (activity .exit)) (now (stored .exit)) (now (latched .exit)) (now (good .exit)) (now (bad .exit)) (now (hold .exit)) ≡ words ⌝ }
+{
+    *clock = words.clock;
+    *active = words.active;
+    *activity = words.activity;
+    *stored = words.stored;
+    *latched = words.latched;
+    *good = words.good;
+    *bad = words.bad;
+    *hold = words.hold;
 }
 
 pub fn counts_of(counters: [StepCounter; 64]) -> [u32; 64]

@@ -6,6 +6,7 @@ pub mod run;
 
 pub use apart::Words;
 pub use apart::counts_of;
+pub use apart::put_words;
 pub use apart::run_of;
 pub use apart::times_of;
 pub use apart::words_of;

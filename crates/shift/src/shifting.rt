@@ -64,6 +64,7 @@ pub fn shift(
         &chart.casestep,
         &chart.signal,
         &chart.expected,
+        chart.edition,
         run::words_of(run),
         &mut counts,
         &mut times,

@@ -49,11 +49,12 @@ pub fn tally_on<'a>(
     casestep: &'a [u8; 64],
     signal: &'a [u8; 64],
     expected: &'a [u8; 64],
+    edition: u8,
     words: Words,
     counts: &'a [u32; 64],
     times: &'a [u32; 32],
 ) -> Tallied
-    ensures { λ r. ⌜ r ≡ tallyOf (chartOf steps actions transitions blocks cases (now (initial .entry)) (now (output .entry)) (now (value .entry)) (now (sources .entry)) (now (targets .entry)) (now (on .entry)) (now (off .entry)) (now (wait .entry)) (now (blockstep .entry)) (now (blockaction .entry)) (now (qualifier .entry)) (now (duration .entry)) (now (casestep .entry)) (now (signal .entry)) (now (expected .entry))) (runOf words (now (counts .entry)) (now (times .entry))) ⌝ }
+    ensures { λ r. ⌜ r ≡ tallyOf (chartOf steps actions transitions blocks cases (now (initial .entry)) (now (output .entry)) (now (value .entry)) (now (sources .entry)) (now (targets .entry)) (now (on .entry)) (now (off .entry)) (now (wait .entry)) (now (blockstep .entry)) (now (blockaction .entry)) (now (qualifier .entry)) (now (duration .entry)) (now (casestep .entry)) (now (signal .entry)) (now (expected .entry)) edition) (runOf words (now (counts .entry)) (now (times .entry))) ⌝ }
 {
     let code = chart::held_code(
         steps,
@@ -75,6 +76,7 @@ pub fn tally_on<'a>(
         casestep,
         signal,
         expected,
+        edition,
     );
     if code != 0 {
         return refused(code);
@@ -119,6 +121,7 @@ pub fn tally(chart: Chart, run: Run) -> Tallied
         &chart.casestep,
         &chart.signal,
         &chart.expected,
+        chart.edition,
         run::words_of(run),
         &counts,
         &times,

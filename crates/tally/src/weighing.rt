@@ -88,9 +88,10 @@ pub fn weigh_on<'a>(
     casestep: &'a [u8; 64],
     signal: &'a [u8; 64],
     expected: &'a [u8; 64],
+    edition: u8,
     weights: &'a [u16],
 ) -> Weighed
-    ensures { λ r. ⌜ r ≡ weighOf (chartOf steps actions transitions blocks cases (now (initial .entry)) (now (output .entry)) (now (value .entry)) (now (sources .entry)) (now (targets .entry)) (now (on .entry)) (now (off .entry)) (now (wait .entry)) (now (blockstep .entry)) (now (blockaction .entry)) (now (qualifier .entry)) (now (duration .entry)) (now (casestep .entry)) (now (signal .entry)) (now (expected .entry))) (now (weights .entry)) ⌝ }
+    ensures { λ r. ⌜ r ≡ weighOf (chartOf steps actions transitions blocks cases (now (initial .entry)) (now (output .entry)) (now (value .entry)) (now (sources .entry)) (now (targets .entry)) (now (on .entry)) (now (off .entry)) (now (wait .entry)) (now (blockstep .entry)) (now (blockaction .entry)) (now (qualifier .entry)) (now (duration .entry)) (now (casestep .entry)) (now (signal .entry)) (now (expected .entry)) edition) (now (weights .entry)) ⌝ }
 {
     let code = chart::held_code(
         steps,
@@ -112,6 +113,7 @@ pub fn weigh_on<'a>(
         casestep,
         signal,
         expected,
+        edition,
     );
     if code != 0 {
         return refused(code, 0);
@@ -154,6 +156,7 @@ pub fn weigh(chart: Chart, weights: &[u16]) -> Weighed
         &chart.casestep,
         &chart.signal,
         &chart.expected,
+        chart.edition,
         weights,
     )
 }

@@ -6,19 +6,19 @@ use mathlib.Core.Path.{_≡_, refl, ap}
 use native.Mathlib.Omega.{arith}
 use lib.ListN.{length, length-append}
 use lib.Dec.{ltb, eqb}
-use borrow.Author.Tests.{le-leb, le-ltb, leb-true}
+use borrow.Author.Tests.{le-leb, le-ltb, leb-true, eqb-true}
 use mir.Syntax.{w32}
 use mir.Val.{SFits}
 use mir.Facts.{fits-ofZ, toZ-ofZ}
-use Rattle.fields.specs.Fields.{unless, stepFits, actionFits}
+use Rattle.fields.specs.Fields.{kindFits, unless, stepFits, actionFits, second}
 use Rattle.chart.specs.Held.{closingCode}
 use Rattle.chart.specs.declared.chart.Chart.{Chart}
 use Rattle.chart.proofs.held.Sound.{fits, transition-zero, block-fits, case-fits}
-use Rattle.reader.specs.Framing.{lengthAt, kindAt, widths, bodyLength, recordBytes, kindFits, recordNumber}
+use Rattle.reader.specs.Framing.{lengthAt, kindAt, widths, bodyLength, recordBytes, recordNumber}
 use Rattle.reader.specs.Bodies.{limited, bodyOf, kindOf, fieldsOf, recordOf, bodyAt, fieldsAt}
 use Rattle.reader.specs.Reading.{accepted, withBody, numberIn, readFrom}
 use Rattle.reader.specs.declared.bodies.Body.{Body}
-use Rattle.reader.specs.declared.bodies.Body.the-variants.{Step, Action, Transition, Block, Case}
+use Rattle.reader.specs.declared.bodies.Body.the-variants.{Step, Action, Transition, Block, Case, Edition}
 use Rattle.reader.proofs.framing.Laws.{is-record}
 use Rattle.reader.proofs.reading.Laws.{limited-zero}
 use Rattle.writer.proofs.Standing.{Stands, stands-first, stands-last, stands-whole, Fit, numbers-back, numbers-length}
@@ -83,6 +83,7 @@ later (Action o v) before h = le-leb _ _ h
 later (Transition s t on off w) before h = le-leb _ _ h
 later (Block s a q d) before h = le-leb _ _ h
 later (Case s n e) before h = le-leb _ _ h
+later (Edition x) before h = le-leb _ _ h
 
 no-end : (b : Body) → eqb (kindOf b) 0 ≡ false
 no-end (Step i) = refl
@@ -90,6 +91,7 @@ no-end (Action o v) = refl
 no-end (Transition s t on off w) = refl
 no-end (Block s a q d) = refl
 no-end (Case s n e) = refl
+no-end (Edition x) = refl
 
 -- a body that its fields' bytes give back
 pub record Faithful (b : Body) : Type 0 where
@@ -119,6 +121,7 @@ Sized (Action o v) = SFits w32 v
 Sized (Transition f g on off w) = (f < 2 ^ 64) × (g < 2 ^ 64) × (on < 2 ^ 64) × (off < 2 ^ 64)
 Sized (Block s a q d) = Unit {0}
 Sized (Case s n e) = Unit {0}
+Sized (Edition x) = Unit {0}
 
 fields-fit : (room t : Bool) → limited room (unless t 5) ≡ 0 → t ≡ true
 fields-fit room t e = fits t 5 (λ z. omega arith) (limited-zero room (unless t 5) e .1)
@@ -140,3 +143,6 @@ faithful c (Block s a q d) e l m z =
 faithful c (Case s n k) e l m z =
     let x = case-fits (c .steps) (c .actions) s n k (fields-fit (ltb (c .cases) 64) _ e) in
     record { fit = (omega arith, (omega arith, (omega arith, (omega arith, (omega arith, refl))))); same = refl }
+faithful c (Edition x) e l m z =
+    let y = eqb-true x 2 (fields-fit (ltb (c .edition) 2) (second x) e) in
+    record { fit = (omega arith, (omega arith, (omega arith, refl))); same = refl }

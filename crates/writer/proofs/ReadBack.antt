@@ -13,7 +13,7 @@ use borrow.Author.Tests.{lt-ltb, ltb-true, eqb-true, eqb-false}
 use Rattle.sets.specs.Loops.{tableFrom}
 use Rattle.sets.proofs.Loops.{bool-eq, some-same, first-zero, length-table, getD-table, is-table}
 use Rattle.fields.specs.Fields.{timed, unless}
-use Rattle.chart.specs.Chart.{noChart}
+use Rattle.chart.specs.Chart.{emptyChart}
 use Rattle.chart.specs.Held.{stepsCode, stepFitsAt, actionsCode, actionFitsAt, transitionsCode, transitionCodeAt, blocksCode, blockFitsAt, casesCode, caseFitsAt, initialAt, someInitial, timedTwice, chartCode}
 use Rattle.chart.specs.declared.chart.Chart.{Chart}
 use Rattle.chart.proofs.held.Laws.{Limits, limits, twice-same}
@@ -23,7 +23,8 @@ use Rattle.reader.specs.Bodies.{kindOf, recordOf, limited}
 use Rattle.reader.specs.Reading.{accepted, withBody, numberIn, readFrom, readChart}
 use Rattle.reader.specs.declared.bodies.Body.{Body}
 use Rattle.reader.specs.declared.reading.Reading.{Reading}
-use Rattle.writer.specs.Writing.{stepIn, actionIn, transitionIn, blockIn, caseIn, joined, records, stepRecords, actionRecords, transitionRecords, blockRecords, caseRecords, chartRecords, fileOf}
+use Rattle.reader.proofs.reading.Kept.{one-or-two}
+use Rattle.writer.specs.Writing.{stepIn, actionIn, transitionIn, blockIn, caseIn, editionIn, joined, records, stepRecords, actionRecords, transitionRecords, blockRecords, caseRecords, editionRecords, chartRecords, fileOf}
 use Rattle.writer.specs.Back.{upTo, firstRecords, asCounted, Typed}
 use Rattle.writer.proofs.One.{Part, whole, split, Faithful, read-one, read-end, Sized, faithful}
 
@@ -86,7 +87,7 @@ module _ {A : Type 0} (d : A) (limit : ℕ) where
           ∙ getD-table (λ i. cond (ltb i n) (getD l i d) d) limit i d k
           ∙ ap (λ (b : Bool). cond b (getD l i d) d) (other i (eqb-false i n e))
 
-none-yet : (c : Chart) → noChart ≡ firstRecords 0 0 0 0 0 c
+none-yet : (c : Chart) → emptyChart 1 ≡ firstRecords 0 0 0 0 0 1 c
 unfolding tableFrom
 none-yet c = refl
 
@@ -99,7 +100,7 @@ has-room : (n limit : ℕ) {code : ℕ} → n < limit → code ≡ 0 → limited
 has-room n limit h e = rw (lt-ltb n limit h) e
 
 module _ (c : Chart) (t : Typed c) (z : Zero c) (l : Limits (c .steps) (c .actions) (c .transitions) (c .blocks) (c .cases)) (i : ℕ) where
-  step-turn : i < c .steps → Turn 1 (firstRecords i 0 0 0 0 c) (stepIn (c .initial) i) (firstRecords (i + 1) 0 0 0 0 c)
+  step-turn : i < c .steps → Turn 1 (firstRecords i 0 0 0 0 1 c) (stepIn (c .initial) i) (firstRecords (i + 1) 0 0 0 0 1 c)
   unfolding stepsCode
   step-turn h =
       let m = l .steps in
@@ -107,7 +108,7 @@ module _ (c : Chart) (t : Typed c) (z : Zero c) (l : Limits (c .steps) (c .actio
       turn (stepIn (c .initial) i) refl (omega arith) (omega arith) tt (has-room i 64 (omega arith) e)
       (rw (up-more 0 64 i (c .initial) (omega arith)))
 
-  action-turn : i < c .actions → Turn 2 (firstRecords (c .steps) i 0 0 0 c) (actionIn (c .output) (c .value) i) (firstRecords (c .steps) (i + 1) 0 0 0 c)
+  action-turn : i < c .actions → Turn 2 (firstRecords (c .steps) i 0 0 0 1 c) (actionIn (c .output) (c .value) i) (firstRecords (c .steps) (i + 1) 0 0 0 1 c)
   unfolding actionsCode
   action-turn h =
       let m = l .actions in
@@ -116,7 +117,7 @@ module _ (c : Chart) (t : Typed c) (z : Zero c) (l : Limits (c .steps) (c .actio
       (rw (up-more 0 32 i (c .output) (omega arith), up-more (pos 0) 32 i (c .value) (omega arith)))
 
   transition-turn : i < c .transitions
-      → Turn 3 (firstRecords (c .steps) (c .actions) i 0 0 c) (transitionIn (c .sources) (c .targets) (c .on) (c .off) (c .wait) i) (firstRecords (c .steps) (c .actions) (i + 1) 0 0 c)
+      → Turn 3 (firstRecords (c .steps) (c .actions) i 0 0 1 c) (transitionIn (c .sources) (c .targets) (c .on) (c .off) (c .wait) i) (firstRecords (c .steps) (c .actions) (i + 1) 0 0 1 c)
   unfolding transitionsCode
   transition-turn h =
       let m = l .transitions in
@@ -126,7 +127,7 @@ module _ (c : Chart) (t : Typed c) (z : Zero c) (l : Limits (c .steps) (c .actio
       (rw (up-more 0 64 i (c .sources) k, up-more 0 64 i (c .targets) k, up-more 0 64 i (c .on) k, up-more 0 64 i (c .off) k, up-more 0 64 i (c .wait) k))
 
   block-turn : i < c .blocks
-      → Turn 4 (firstRecords (c .steps) (c .actions) (c .transitions) i 0 c) (blockIn (c .blockstep) (c .blockaction) (c .qualifier) (c .duration) i) (firstRecords (c .steps) (c .actions) (c .transitions) (i + 1) 0 c)
+      → Turn 4 (firstRecords (c .steps) (c .actions) (c .transitions) i 0 1 c) (blockIn (c .blockstep) (c .blockaction) (c .qualifier) (c .duration) i) (firstRecords (c .steps) (c .actions) (c .transitions) (i + 1) 0 1 c)
   unfolding blocksCode
   block-turn h =
       let m = l .blocks in
@@ -136,7 +137,7 @@ module _ (c : Chart) (t : Typed c) (z : Zero c) (l : Limits (c .steps) (c .actio
       (rw (up-more 0 256 i (c .blockstep) k, up-more 0 256 i (c .blockaction) k, up-more 0 256 i (c .qualifier) k, up-more 0 256 i (c .duration) k))
 
   case-turn : i < c .cases
-      → Turn 5 (firstRecords (c .steps) (c .actions) (c .transitions) (c .blocks) i c) (caseIn (c .casestep) (c .signal) (c .expected) i) (firstRecords (c .steps) (c .actions) (c .transitions) (c .blocks) (i + 1) c)
+      → Turn 5 (firstRecords (c .steps) (c .actions) (c .transitions) (c .blocks) i 1 c) (caseIn (c .casestep) (c .signal) (c .expected) i) (firstRecords (c .steps) (c .actions) (c .transitions) (c .blocks) (i + 1) 1 c)
   unfolding casesCode
   case-turn h =
       let m = l .cases in
@@ -144,6 +145,13 @@ module _ (c : Chart) (t : Typed c) (z : Zero c) (l : Limits (c .steps) (c .actio
       let e = first-zero (λ j. unless (caseFitsAt (c .steps) (c .actions) (c .casestep) (c .signal) (c .expected) j) 5) (c .cases) (z .cases) i h in
       turn (caseIn (c .casestep) (c .signal) (c .expected) i) refl (l .steps) (l .actions) tt (has-room i 64 k e)
       (rw (up-more 0 64 i (c .casestep) k, up-more 0 64 i (c .signal) k, up-more 0 64 i (c .expected) k))
+
+  edition-turn : i < c .edition - 1
+      → Turn 6 (firstRecords (c .steps) (c .actions) (c .transitions) (c .blocks) (c .cases) (i + 1) c) (editionIn i) (firstRecords (c .steps) (c .actions) (c .transitions) (c .blocks) (c .cases) (i + 1 + 1) c)
+  edition-turn h =
+      let m = one-or-two (c .edition) (z .edition) in
+      let k : i ≡ 0 = omega arith in
+      turn (editionIn i) refl (l .steps) (l .actions) tt (has-room (i + 1) 2 (omega arith) refl) (rw k)
 
 -- ---- the end: the closing tests look only below the counts
 
@@ -158,7 +166,7 @@ timed-same n a q m =
 -- ---- the whole file
 
 module _ (c : Chart) (t : Typed c) (z : Zero c) (l : Limits (c .steps) (c .actions) (c .transitions) (c .blocks) (c .cases)) (s : List ℕ) where
-  reads-end : (at : ℕ) → Part s at (recordBytes 0 []) (length s) → Reads (accepted (asCounted c)) s at 5 (asCounted c)
+  reads-end : (at : ℕ) → Part s at (recordBytes 0 []) (length s) → Reads (accepted (asCounted c)) s at 6 (asCounted c)
   reads-end at p before zero h k = absurd (omega arith)
   reads-end at p before (suc fuel) h k =
       read-end s at fuel before (asCounted c) p (rw (initial-same (c .steps) (c .initial) (l .steps), timed-same (c .blocks) (c .blockaction) (c .qualifier) (l .blocks)) (z .closing))
@@ -166,16 +174,19 @@ module _ (c : Chart) (t : Typed c) (z : Zero c) (l : Limits (c .steps) (c .actio
   reads-all : Part s 0 (chartRecords c ++ recordBytes 0 []) (length s) → readChart s ≡ accepted (asCounted c)
   reads-all p =
       let R = accepted (asCounted c) in
-      let p₅ = split s 0 (chartRecords c) (recordBytes 0 []) (length s) p in
+      let p₆ = split s 0 (chartRecords c) (recordBytes 0 []) (length s) p in
+      let p₅ = split s 0 (stepRecords c ++ actionRecords c ++ transitionRecords c ++ blockRecords c ++ caseRecords c) (editionRecords c) _ (p₆ .0) in
       let p₄ = split s 0 (stepRecords c ++ actionRecords c ++ transitionRecords c ++ blockRecords c) (caseRecords c) _ (p₅ .0) in
       let p₃ = split s 0 (stepRecords c ++ actionRecords c ++ transitionRecords c) (blockRecords c) _ (p₄ .0) in
       let p₂ = split s 0 (stepRecords c ++ actionRecords c) (transitionRecords c) _ (p₃ .0) in
       let p₁ = split s 0 (stepRecords c) (actionRecords c) _ (p₂ .0) in
-      let e₅ = reads-records R s 5 _ (λ i. firstRecords (c .steps) (c .actions) (c .transitions) (c .blocks) i c) (c .cases) _ _ (case-turn c t z l) (p₄ .1) (reads-end _ (p₅ .1)) in
-      let e₄ = reads-records R s 4 _ (λ i. firstRecords (c .steps) (c .actions) (c .transitions) i 0 c) (c .blocks) _ _ (block-turn c t z l) (p₃ .1) (λ b f h. e₅ b f (omega arith)) in
-      let e₃ = reads-records R s 3 _ (λ i. firstRecords (c .steps) (c .actions) i 0 0 c) (c .transitions) _ _ (transition-turn c t z l) (p₂ .1) (λ b f h. e₄ b f (omega arith)) in
-      let e₂ = reads-records R s 2 _ (λ i. firstRecords (c .steps) i 0 0 0 c) (c .actions) _ _ (action-turn c t z l) (p₁ .1) (λ b f h. e₃ b f (omega arith)) in
-      let e₁ = reads-records R s 1 _ (λ i. firstRecords i 0 0 0 0 c) (c .steps) _ _ (step-turn c t z l) (p₁ .0) (λ b f h. e₂ b f (omega arith)) in
+      let n : c .edition - 1 + 1 ≡ c .edition = omega (arith, one-or-two (c .edition) (z .edition) .0) in
+      let e₆ = reads-records R s 6 _ (λ i. firstRecords (c .steps) (c .actions) (c .transitions) (c .blocks) (c .cases) (i + 1) c) (c .edition - 1) _ _ (edition-turn c t z l) (p₅ .1) (rw n (reads-end _ (p₆ .1))) in
+      let e₅ = reads-records R s 5 _ (λ i. firstRecords (c .steps) (c .actions) (c .transitions) (c .blocks) i 1 c) (c .cases) _ _ (case-turn c t z l) (p₄ .1) (λ b f h. e₆ b f (omega arith)) in
+      let e₄ = reads-records R s 4 _ (λ i. firstRecords (c .steps) (c .actions) (c .transitions) i 0 1 c) (c .blocks) _ _ (block-turn c t z l) (p₃ .1) (λ b f h. e₅ b f (omega arith)) in
+      let e₃ = reads-records R s 3 _ (λ i. firstRecords (c .steps) (c .actions) i 0 0 1 c) (c .transitions) _ _ (transition-turn c t z l) (p₂ .1) (λ b f h. e₄ b f (omega arith)) in
+      let e₂ = reads-records R s 2 _ (λ i. firstRecords (c .steps) i 0 0 0 1 c) (c .actions) _ _ (action-turn c t z l) (p₁ .1) (λ b f h. e₃ b f (omega arith)) in
+      let e₁ = reads-records R s 1 _ (λ i. firstRecords i 0 0 0 0 1 c) (c .steps) _ _ (step-turn c t z l) (p₁ .0) (λ b f h. e₂ b f (omega arith)) in
       ap (readFrom (length s + 1) s 0 0) (none-yet c) ∙ e₁ 0 (length s + 1) (omega arith) (omega arith)
 
 pub read-file : (c : Chart) → Typed c → chartCode c ≡ 0 → readChart (fileOf c) ≡ accepted (asCounted c)

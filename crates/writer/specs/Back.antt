@@ -14,9 +14,9 @@ use Rattle.chart.specs.declared.chart.Chart.{Chart}
 abbrev pub upTo : {A : Type 0} → A → ℕ → ℕ → List A → List A
 upTo nought limit n l = table (λ i. cond (ltb i n) (getD l i nought) nought) limit
 
--- the first so many records of each kind, and zeros beyond them
-abbrev pub firstRecords : ℕ → ℕ → ℕ → ℕ → ℕ → Chart → Chart
-firstRecords steps actions transitions blocks cases c = record {
+-- the first so many records of each kind, and zeros beyond them, in an edition
+abbrev pub firstRecords : ℕ → ℕ → ℕ → ℕ → ℕ → ℕ → Chart → Chart
+firstRecords steps actions transitions blocks cases edition c = record {
   steps = steps;
   actions = actions;
   transitions = transitions;
@@ -37,11 +37,12 @@ firstRecords steps actions transitions blocks cases c = record {
   casestep = upTo 0 64 cases (c .casestep);
   signal = upTo 0 64 cases (c .signal);
   expected = upTo 0 64 cases (c .expected);
+  edition = edition;
 }
 
 -- a chart as far as its counts reach
 abbrev pub asCounted : Chart → Chart
-asCounted c = firstRecords (c .steps) (c .actions) (c .transitions) (c .blocks) (c .cases) c
+asCounted c = firstRecords (c .steps) (c .actions) (c .transitions) (c .blocks) (c .cases) (c .edition) c
 
 -- each of a string's bytes is one, as its type says
 abbrev pub Bytes : List ℕ → Type 0

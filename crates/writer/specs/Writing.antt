@@ -1,6 +1,6 @@
 -- "Write a held chart into lent bytes in the form of document 01": "Kinds stand in the order 1, 2, 3, 4, 5, then one end record (kind 0, no body)
--- and nothing more."
-use Prim.Native.Nat.{ℕ, zero, suc, _+_, _*_}
+-- and nothing more." Document 02, request (viii): "one more record, kind 6, one byte with the value 2, after the cases; absent means edition 1".
+use Prim.Native.Nat.{ℕ, zero, suc, _+_, _-_, _*_}
 use mathlib.Core.List.{List, [], _++_}
 use mathlib.Core.Bool.{cond}
 use lib.IntN.{ℤ, pos}
@@ -14,7 +14,7 @@ use Rattle.chart.specs.declared.chart.Chart.{Chart}
 use Rattle.reader.specs.Framing.{bodyLength, recordBytes}
 use Rattle.reader.specs.Bodies.{recordOf}
 use Rattle.reader.specs.declared.bodies.Body.{Body}
-use Rattle.reader.specs.declared.bodies.Body.the-variants.{Step, Action, Transition, Block, Case}
+use Rattle.reader.specs.declared.bodies.Body.the-variants.{Step, Action, Transition, Block, Case, Edition}
 use Rattle.writer.specs.declared.writing.Writing.{Writing}
 
 -- record i of a kind, from its tables
@@ -33,6 +33,9 @@ blockIn step action qualifier duration i = Block (getD step i 0) (getD action i 
 
 abbrev pub caseIn : List ℕ → List ℕ → List ℕ → ℕ → Body
 caseIn step signal expected i = Case (getD step i 0) (getD signal i 0) (getD expected i 0)
+
+abbrev pub editionIn : ℕ → Body
+editionIn i = Edition 2
 
 -- t 0, t 1, .. one behind the other, n of them
 unfoldable pub joined : (ℕ → List ℕ) → ℕ → List ℕ
@@ -58,9 +61,13 @@ blockRecords c = records (blockIn (c .blockstep) (c .blockaction) (c .qualifier)
 abbrev pub caseRecords : Chart → List ℕ
 caseRecords c = records (caseIn (c .casestep) (c .signal) (c .expected)) (c .cases)
 
+-- none in the first edition, one in the second
+abbrev pub editionRecords : Chart → List ℕ
+editionRecords c = records editionIn (c .edition - 1)
+
 -- all of a chart, and its file
 abbrev pub chartRecords : Chart → List ℕ
-chartRecords c = stepRecords c ++ actionRecords c ++ transitionRecords c ++ blockRecords c ++ caseRecords c
+chartRecords c = stepRecords c ++ actionRecords c ++ transitionRecords c ++ blockRecords c ++ caseRecords c ++ editionRecords c
 
 unfoldable pub fileOf : Chart → List ℕ
 fileOf c = chartRecords c ++ recordBytes 0 []
@@ -69,9 +76,10 @@ fileOf c = chartRecords c ++ recordBytes 0 []
 abbrev pub recordLength : ℕ → ℕ
 recordLength k = 4 + bodyLength k
 
-abbrev pub fileLength : ℕ → ℕ → ℕ → ℕ → ℕ → ℕ
-fileLength steps actions transitions blocks cases =
-    recordLength 1 * steps + recordLength 2 * actions + recordLength 3 * transitions + recordLength 4 * blocks + recordLength 5 * cases + recordLength 0
+abbrev pub fileLength : ℕ → ℕ → ℕ → ℕ → ℕ → ℕ → ℕ
+fileLength steps actions transitions blocks cases edition =
+    recordLength 1 * steps + recordLength 2 * actions + recordLength 3 * transitions + recordLength 4 * blocks + recordLength 5 * cases
+    + recordLength 6 * (edition - 1) + recordLength 0
 
 -- "the chart's own first, then 17 when the lent bytes are fewer than the chart's length"
 abbrev pub writeCode : Chart → List ℕ → ℕ

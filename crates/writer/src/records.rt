@@ -6,7 +6,7 @@ ghost use Rattle.sets.specs.Bytes.{Put};
 ghost use Rattle.reader.specs.Numbers.{numbersBytes};
 ghost use Rattle.reader.specs.Framing.{recordBytes};
 ghost use Rattle.reader.specs.Bodies.{recordOf};
-ghost use Rattle.reader.specs.declared.bodies.Body.the-variants.{Step, Action, Transition, Block, Case};
+ghost use Rattle.reader.specs.declared.bodies.Body.the-variants.{Step, Action, Transition, Block, Case, Edition};
 use crate::numbers;
 
 fn put_head(bytes: &mut [u8], at: usize, size: u16, kind: u16) -> usize
@@ -86,6 +86,14 @@ pub(crate) fn put_case(bytes: &mut [u8], at: usize, step: u8, signal: u8, expect
 {
     let body = put_head(bytes, at, 3, 5);
     put_three(bytes, body, step, signal, expected)
+}
+
+pub(crate) fn put_edition(bytes: &mut [u8], at: usize) -> usize
+    requires { ⌜ at + 5 ≤ length (now bytes) ⌝ }
+    ensures { λ r. ⌜ Put (now (bytes .entry)) at (recordOf (Edition 2)) (now (bytes .exit)) r ⌝ }
+{
+    let body = put_head(bytes, at, 1, 6);
+    numbers::put_u8(bytes, body, 2)
 }
 
 pub(crate) fn put_end(bytes: &mut [u8], at: usize) -> usize

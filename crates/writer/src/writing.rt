@@ -1,11 +1,13 @@
 // A chart's file: the records of each kind, then the end record. One pass over each kind's tables, which the chart lends.
+ghost use mathlib.Core.Bool.{true};
 ghost use mathlib.Core.Path.{_≡_};
 ghost use mathlib.Core.List.{List};
-ghost use Prim.Native.Nat.{ℕ, _+_, _*_, _≤_};
+ghost use Prim.Native.Nat.{ℕ, _+_, _-_, _*_, _≤_};
 ghost use lib.ListN.{length};
 ghost use Rattle.sets.specs.Bytes.{Put};
+ghost use Rattle.fields.specs.Fields.{editionFits};
 ghost use Rattle.chart.specs.Chart.{chartOf};
-ghost use Rattle.writer.specs.Writing.{stepIn, actionIn, transitionIn, blockIn, caseIn, records, fileLength, refused, writeChart};
+ghost use Rattle.writer.specs.Writing.{stepIn, actionIn, transitionIn, blockIn, caseIn, editionIn, records, fileLength, refused, writeChart};
 ghost use Rattle.writer.specs.declared.writing.Writing.{Writing};
 use crate::codes::TOO_FEW_BYTES;
 use crate::records;
@@ -124,17 +126,30 @@ fn put_cases<'a>(
     end
 }
 
+// The second edition has a record, the first has none (document 02, request viii).
+fn put_edition(bytes: &mut [u8], at: usize, edition: u8) -> usize
+    requires { ⌜ (editionFits edition ≡ true) × (at + 5 * (edition - 1) ≤ length (now bytes)) ⌝ }
+    ensures { λ r. ⌜ Put (now (bytes .entry)) at (records editionIn (edition - 1)) (now (bytes .exit)) r ⌝ }
+{
+    if fields::is_second(edition) {
+        return records::put_edition(bytes, at);
+    }
+    at
+}
+
 fn file_length(
     steps: usize,
     actions: usize,
     transitions: usize,
     blocks: usize,
     cases: usize,
+    edition: u8,
 ) -> usize
-    requires { ⌜ (steps ≤ 64) × (actions ≤ 32) × (transitions ≤ 64) × (blocks ≤ 256) × (cases ≤ 64) ⌝ }
-    ensures { λ r. ⌜ r ≡ fileLength steps actions transitions blocks cases ⌝ }
+    requires { ⌜ (steps ≤ 64) × (actions ≤ 32) × (transitions ≤ 64) × (blocks ≤ 256) × (cases ≤ 64) × (editionFits edition ≡ true) ⌝ }
+    ensures { λ r. ⌜ r ≡ fileLength steps actions transitions blocks cases edition ⌝ }
 {
-    5 * steps + 9 * actions + 40 * transitions + 11 * blocks + 7 * cases + 4
+    let said = 5 * (edition as usize - 1);
+    5 * steps + 9 * actions + 40 * transitions + 11 * blocks + 7 * cases + said + 4
 }
 
 // A held chart's tables, lent, written: a caller that holds the chart hands no copy of it down.
@@ -159,9 +174,10 @@ pub fn write_on<'a>(
     casestep: &'a [u8; 64],
     signal: &'a [u8; 64],
     expected: &'a [u8; 64],
+    edition: u8,
     bytes: &mut [u8],
 ) -> Writing
-    ensures { λ r. ⌜ _≡_ {A = Writing × List ℕ} (r, now (bytes .exit)) (writeChart (chartOf steps actions transitions blocks cases (now (initial .entry)) (now (output .entry)) (now (value .entry)) (now (sources .entry)) (now (targets .entry)) (now (on .entry)) (now (off .entry)) (now (wait .entry)) (now (blockstep .entry)) (now (blockaction .entry)) (now (qualifier .entry)) (now (duration .entry)) (now (casestep .entry)) (now (signal .entry)) (now (expected .entry))) (now (bytes .entry))) ⌝ }
+    ensures { λ r. ⌜ _≡_ {A = Writing × List ℕ} (r, now (bytes .exit)) (writeChart (chartOf steps actions transitions blocks cases (now (initial .entry)) (now (output .entry)) (now (value .entry)) (now (sources .entry)) (now (targets .entry)) (now (on .entry)) (now (off .entry)) (now (wait .entry)) (now (blockstep .entry)) (now (blockaction .entry)) (now (qualifier .entry)) (now (duration .entry)) (now (casestep .entry)) (now (signal .entry)) (now (expected .entry)) edition) (now (bytes .entry))) ⌝ }
 {
     let code = chart::held_code(
         steps,
@@ -183,11 +199,12 @@ pub fn write_on<'a>(
         casestep,
         signal,
         expected,
+        edition,
     );
     if code != 0 {
         return refused(code);
     }
-    let length = file_length(steps, actions, transitions, blocks, cases);
+    let length = file_length(steps, actions, transitions, blocks, cases, edition);
     if bytes.len() < length {
         return refused(TOO_FEW_BYTES);
     }
@@ -213,9 +230,10 @@ pub fn write_on<'a>(
         duration,
     );
     let after_cases = put_cases(bytes, after_blocks, cases, casestep, signal, expected);
+    let after_edition = put_edition(bytes, after_cases, edition);
     Writing {
         code: 0,
-        length: records::put_end(bytes, after_cases),
+        length: records::put_end(bytes, after_edition),
     }
 }
 
@@ -243,6 +261,7 @@ pub fn write_chart(chart: Chart, bytes: &mut [u8]) -> Writing
         &chart.casestep,
         &chart.signal,
         &chart.expected,
+        chart.edition,
         bytes,
     )
 }

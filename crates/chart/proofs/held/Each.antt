@@ -5,7 +5,7 @@ use native.Mathlib.Omega.{arith}
 use lib.Dec.{eqb}
 use Rattle.sets.specs.Loops.{orElse, firstCode}
 use Rattle.sets.specs.Sets.{Apart}
-use Rattle.fields.specs.Fields.{unless, transitionFits, stepsDiffer, transitionCode}
+use Rattle.fields.specs.Fields.{unless, transitionFits, stepsDiffer, transitionCode, editionFits}
 use Rattle.chart.specs.Held.{limitsFit, stepFitsAt, stepsCode, actionFitsAt, actionsCode, transitionCodeAt, transitionsCode, blockFitsAt, blocksCode, caseFitsAt, casesCode, someInitial, timedTwice, closingCode, heldCode, chartCode}
 use Rattle.chart.specs.declared.chart.Chart.{Chart}
 
@@ -51,7 +51,8 @@ module _ (P : ℕ → Type 0) where
         (else-each _ _ (first-each (transitionCodeAt (c .steps) (c .actions) (c .sources) (c .targets) (c .on) (c .off) (c .wait)) (c .transitions) p0 (λ i. transition-each p0 p5 p6 p7 _ _ _ _ _ _ _))
         (else-each _ _ (column-each p0 p5 (blockFitsAt (c .steps) (c .actions) (c .blockstep) (c .blockaction) (c .qualifier) (c .duration)) (c .blocks))
         (else-each _ _ (column-each p0 p5 (caseFitsAt (c .steps) (c .actions) (c .casestep) (c .signal) (c .expected)) (c .cases))
-        (closing-each p0 p9 p8 c))))))
+        (else-each _ _ (either (editionFits (c .edition)) 0 5 p0 p5)
+        (closing-each p0 p9 p8 c)))))))
 
 -- so it is 9 at most
 pub chart-most : (c : Chart) → chartCode c ≤ 9

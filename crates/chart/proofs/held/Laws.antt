@@ -55,15 +55,15 @@ largest-one (suc n) table h =
     go a b l false true e f = let q = eqb-true b 1 f in eq-eqb (max a b) 1 (omega arith)
     go a b l false false e f = let x = eqb-false a 1 e in let y = eqb-false b 1 f in ne-eqb (max a b) 1 (λ m. omega arith)
 
--- the largest mark tells whether all fit, and then whether one is 1; a, t, b and c are the numbers between the two tests, z the one behind
-pub marks-code : (n : ℕ) (initial : List ℕ) (a t b c z : ℕ)
-    → orElse (unless (leb (largest n initial) 1) 5) (orElse a (orElse t (orElse b (orElse c (orElse (unless (eqb (largest n initial) 1) 9) z)))))
-    ≡ orElse (stepsCode n initial) (orElse a (orElse t (orElse b (orElse c (orElse (unless (someInitial n initial) 9) z)))))
+-- the largest mark tells whether all fit, and then whether one is 1; a, t, b, c and d are the numbers between the two tests, z the one behind
+pub marks-code : (n : ℕ) (initial : List ℕ) (a t b c d z : ℕ)
+    → orElse (unless (leb (largest n initial) 1) 5) (orElse a (orElse t (orElse b (orElse c (orElse d (orElse (unless (eqb (largest n initial) 1) 9) z))))))
+    ≡ orElse (stepsCode n initial) (orElse a (orElse t (orElse b (orElse c (orElse d (orElse (unless (someInitial n initial) 9) z))))))
 unfolding stepsCode someInitial
-marks-code n initial a t b c z = rw (← largest-code 1 n initial) (go (leb (largest n initial) 1) refl)
+marks-code n initial a t b c d z = rw (← largest-code 1 n initial) (go (leb (largest n initial) 1) refl)
   where
     rest : Bool → ℕ
-    rest one = orElse a (orElse t (orElse b (orElse c (orElse (unless one 9) z))))
+    rest one = orElse a (orElse t (orElse b (orElse c (orElse d (orElse (unless one 9) z)))))
 
     go : (fit : Bool) → leb (largest n initial) 1 ≡ fit → orElse (unless fit 5) (rest (eqb (largest n initial) 1)) ≡ orElse (unless fit 5) (rest (some (initialAt initial) n))
     go true e = ap rest (largest-one n initial (leb-true _ 1 e))

@@ -10,7 +10,7 @@ use native.Mathlib.Omega.{arith}
 use borrow.Author.Tests.{leb-true, ltb-true}
 use Rattle.sets.specs.Sets.{Below}
 use Rattle.sets.proofs.Loops.{and-true, else-zero, first-zero}
-use Rattle.fields.specs.Fields.{unless, signalExists, signalsExist, transitionFits, transitionCode, blockNames, blockFits, caseFits, actionFits, timed, longest}
+use Rattle.fields.specs.Fields.{unless, signalExists, signalsExist, transitionFits, transitionCode, blockNames, blockFits, caseFits, actionFits, timed, longest, editionFits}
 use Rattle.chart.specs.Held.{limitsFit, stepsCode, actionsCode, transitionsCode, transitionCodeAt, blocksCode, blockFitsAt, casesCode, caseFitsAt, closingCode, heldCode, chartCode}
 use Rattle.chart.specs.declared.chart.Chart.{Chart}
 use Rattle.chart.proofs.held.Laws.{Limits, limits}
@@ -24,6 +24,7 @@ pub record Sound (c : Chart) : Type 0 where
   pub blockaction : (b : ℕ) → b < c .blocks → getD (c .blockaction) b 0 < c .actions
   pub casestep : (k : ℕ) → k < c .cases → getD (c .casestep) k 0 < 64
   pub signal : (k : ℕ) → k < c .cases → getD (c .signal) k 0 < 64
+  pub edition : editionFits (c .edition) ≡ true
 
 -- what "n unless t" tells
 pub fits : (t : Bool) (n : ℕ) → (n ≡ 0 → ⊥) → unless t n ≡ 0 → t ≡ true
@@ -67,6 +68,7 @@ pub record Zero (c : Chart) : Type 0 where
   pub transitions : transitionsCode (c .transitions) (c .steps) (c .actions) (c .sources) (c .targets) (c .on) (c .off) (c .wait) ≡ 0
   pub blocks : blocksCode (c .blocks) (c .steps) (c .actions) (c .blockstep) (c .blockaction) (c .qualifier) (c .duration) ≡ 0
   pub cases : casesCode (c .cases) (c .steps) (c .actions) (c .casestep) (c .signal) (c .expected) ≡ 0
+  pub edition : editionFits (c .edition) ≡ true
   pub closing : closingCode (c .steps) (c .blocks) (c .initial) (c .blockaction) (c .qualifier) ≡ 0
 
 pub is-zero : (c : Chart) → chartCode c ≡ 0 → Zero c
@@ -78,7 +80,17 @@ is-zero c e =
     let t = else-zero (transitionsCode (c .transitions) (c .steps) (c .actions) (c .sources) (c .targets) (c .on) (c .off) (c .wait)) _ (a .1) in
     let b = else-zero (blocksCode (c .blocks) (c .steps) (c .actions) (c .blockstep) (c .blockaction) (c .qualifier) (c .duration)) _ (t .1) in
     let k = else-zero (casesCode (c .cases) (c .steps) (c .actions) (c .casestep) (c .signal) (c .expected)) _ (b .1) in
-    record { limits = fits _ 4 (λ z. omega arith) (l .0); steps = s .0; actions = a .0; transitions = t .0; blocks = b .0; cases = k .0; closing = k .1 }
+    let d = else-zero (unless (editionFits (c .edition)) 5) _ (k .1) in
+    record {
+      limits = fits _ 4 (λ z. omega arith) (l .0);
+      steps = s .0;
+      actions = a .0;
+      transitions = t .0;
+      blocks = b .0;
+      cases = k .0;
+      edition = fits _ 5 (λ z. omega arith) (d .0);
+      closing = d .1;
+    }
 
 outputs-zero : (n : ℕ) (output : List ℕ) → actionsCode n output ≡ 0 → (a : ℕ) → a < n → getD output a 0 < 32
 unfolding actionsCode
@@ -112,4 +124,5 @@ sound c e =
       blockaction = λ b h. blocks-zero _ _ _ _ _ _ _ (z .blocks) b h .1;
       casestep = λ k h. lt-of-lt-of-le (cases-zero _ _ _ _ _ _ (z .cases) k h .0) (l .steps);
       signal = λ k h. cases-zero _ _ _ _ _ _ (z .cases) k h .1;
+      edition = z .edition;
     }

@@ -9,19 +9,28 @@ use Rattle.choice.proofs.explain.Statement.{statement}
 use Rattle.choice.proofs.explain.Tie as tie
 
 abbrev Inv-loop : tie.InvT-loop
-Inv-loop n sources targets on off wait counts active signals reasons₀ choice₀ last t₀ reasons choice t =
-    (choice ≡ chosen t sources targets on off wait counts active signals) × (reasons ≡ reasonsOf 0 t sources targets on off wait counts active signals) × (t ≤ last)
+Inv-loop edition n sources targets on off wait counts active signals reasons₀ choice₀ last t₀ reasons choice t =
+    (choice ≡ chosen edition t sources targets on off wait counts active signals) × (reasons ≡ reasonsOf 0 edition t sources targets on off wait counts active signals) × (t ≤ last)
 
 abbrev μ-loop : tie.MeasureT-loop
-μ-loop n sources targets on off wait counts active signals reasons₀ choice₀ last t₀ reasons choice t = last - t
+μ-loop edition n sources targets on off wait counts active signals reasons₀ choice₀ last t₀ reasons choice t = last - t
 
 at-most-requires : tie.Need-at-most-requires Inv-loop μ-loop
 at-most-requires c κs = search needs
 
 loop-holds : tie.Need-loop-holds Inv-loop μ-loop
 loop-holds c =
-    let n = none-explained _ _ _ _ _ _ _ _ in
+    let n = none-explained _ _ _ _ _ _ _ _ _ in
     (n .0, n .1, omega arith)
+
+mul-tested : tie.Need-mul-tested Inv-loop μ-loop
+mul-tested c = omega arith
+
+element-copy-out-tested : tie.Need-element-copy-out-tested Inv-loop μ-loop
+element-copy-out-tested c = omega arith
+
+tested-requires : tie.Need-tested-requires Inv-loop μ-loop
+tested-requires c κs = search needs
 
 mul-reason-of : tie.Need-mul-reason-of Inv-loop μ-loop
 mul-reason-of c = omega arith
@@ -46,12 +55,6 @@ mul-reason-of-4 c = omega arith
 
 element-copy-out-reason-of-4 : tie.Need-element-copy-out-reason-of-4 Inv-loop μ-loop
 element-copy-out-reason-of-4 c = omega arith
-
-mul-reason-of-5 : tie.Need-mul-reason-of-5 Inv-loop μ-loop
-mul-reason-of-5 c = omega arith
-
-element-copy-out-reason-of-5 : tie.Need-element-copy-out-reason-of-5 Inv-loop μ-loop
-element-copy-out-reason-of-5 c = omega arith
 
 reason-of-requires : tie.Need-reason-of-requires Inv-loop μ-loop
 reason-of-requires c κs = search needs
@@ -83,12 +86,13 @@ loop-less c = omega arith
 loop-again : tie.Need-loop-again Inv-loop μ-loop
 loop-again c =
     let why = c .before .before .before in
-    let l = why .before .before .before .before .before .before .before .loop in
-    let e = one-explained _ _ _ _ _ _ _ _ (l .t) _ _ _ _ (l .inv .0) (l .inv .1) (omega arith) (why .reason-of .ensures) (c .taking-if .ensures) in
+    let test = why .before .before .before .before .before in
+    let l = test .before .before .before .loop in
+    let e = one-explained _ _ _ _ _ _ _ _ _ (l .t) _ _ _ _ (l .inv .0) (l .inv .1) (omega arith) (rw (test .tested .ensures) at (why .reason-of .ensures)) (c .taking-if .ensures) in
     (e .0, e .1, omega arith)
 
 returns : tie.Need-returns Inv-loop μ-loop
-returns c = all-explained _ _ _ _ _ _ _ _ _ (c .before .loop .t) _ (c .before .loop .inv .1) (omega arith)
+returns c = all-explained _ _ _ _ _ _ _ _ _ _ (c .before .loop .t) _ (c .before .loop .inv .1) (omega arith)
 
 pub explain-spec : {M : Type 1} → statement M
 explain-spec =
@@ -98,6 +102,9 @@ explain-spec =
     μ-loop
     at-most-requires
     loop-holds
+    mul-tested
+    element-copy-out-tested
+    tested-requires
     mul-reason-of
     element-copy-out-reason-of
     mul-reason-of-2
@@ -106,8 +113,6 @@ explain-spec =
     element-copy-out-reason-of-3
     mul-reason-of-4
     element-copy-out-reason-of-4
-    mul-reason-of-5
-    element-copy-out-reason-of-5
     reason-of-requires
     element-write-reasons
     mul-taking-if

@@ -143,7 +143,7 @@ pub why-most : (c : Chart) (r : Run) (clock inputs lent k : ℕ) → k < 64 → 
 why-most c r clock inputs lent k l = rw (why-kept c r clock inputs lent) (go (eqb (cycleOf c r clock inputs lent .code) 0))
   where
     go : (b : Bool) → getD (cond b (whyIn c r clock inputs) noReasons) k 0 ≤ 7
-    go true = reasons-most (r .hold) (c .sources) (c .targets) (c .on) (c .off) (c .wait) (countsAt r clock) (r .active) (signalsOf inputs (r .activity)) (c .transitions) k l
+    go true = reasons-most (r .hold) (c .edition) (c .sources) (c .targets) (c .on) (c .off) (c .wait) (countsAt r clock) (r .active) (signalsOf inputs (r .activity)) (c .transitions) k l
     go false = let z : getD noReasons k 0 ≡ 0 = getD-replicate 64 k 0 0 l in omega arith
 
 -- with the reasons, which the calls do not make, beside it

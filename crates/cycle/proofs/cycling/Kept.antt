@@ -1,7 +1,7 @@
 -- An accepted start and an accepted cycle return a run that belongs to the chart: a run that the engine made is never refused 12 by its chart.
 use Prim.Native.Nat.{ℕ, zero, suc, _≤_, _<_}
 use mathlib.Core.List.{List}
-use mathlib.Core.Bool.{Bool, true, false, _&&_, not, cond}
+use mathlib.Core.Bool.{Bool, true, false, not, cond}
 use mathlib.Core.Path.{_≡_, refl, sym, ap, _∙_}
 use native.Mathlib.Omega.{arith}
 use lib.ListN.{getD, replicate}
@@ -17,7 +17,7 @@ use Rattle.chart.specs.Held.{chartCode}
 use Rattle.chart.specs.Initial.{initialSet}
 use Rattle.chart.specs.declared.chart.Chart.{Chart}
 use Rattle.chart.proofs.held.Sound.{Sound, sound}
-use Rattle.choice.specs.Choice.{reason, takes, choosingAt, noneTaken, chosen, held}
+use Rattle.choice.specs.Choice.{reason, tested, takes, choosingAt, noneTaken, chosen, held}
 use Rattle.choice.specs.declared.Choice.{Choice}
 use Rattle.acting.specs.Acting.{keptCount, sets, latches, wants, requestOf, asked, storedAfter, latchedAfter, acted}
 use Rattle.acting.specs.declared.Steps.{Steps}
@@ -28,7 +28,7 @@ use Rattle.run.specs.Belongs.{countFits, countersFit, timersFit, belongs}
 use Rattle.run.specs.declared.run.Run.{Run}
 use Rattle.run.proofs.belongs.Laws.{Own, own, is-own}
 use Rattle.passes.specs.Time.{elapsed, stepTime, grownCount, grownTime}
-use Rattle.passes.specs.Choosing.{movedTo, stepsOf}
+use Rattle.passes.specs.Choosing.{movedTo, enteredBy, stepsOf}
 use Rattle.passes.specs.Moving.{settledCounters, settledTimers, marksOf, signalsOf}
 use Rattle.cycle.specs.Cycling.{refused, startCode, cycleCode, actedOn, startSteps, started, startOf, countsAt, timesAt, choiceOf, cycled, cycleOf}
 use Rattle.cycle.specs.declared.cycling.Cycled.{Cycled}
@@ -107,26 +107,26 @@ actions-below c counts times steps stored latched s e f =
 
 -- ---- the steps
 
-claimed-below : (n steps : ℕ) (sources targets on off wait counts : List ℕ) (active signals : ℕ) → ((t : ℕ) → t < n → Below (getD targets t 0) steps ≡ true)
-    → Below (chosen n sources targets on off wait counts active signals .claimed) steps ≡ true
+claimed-below : (edition n steps : ℕ) (sources targets on off wait counts : List ℕ) (active signals : ℕ) → ((t : ℕ) → t < n → Below (getD targets t 0) steps ≡ true)
+    → Below (chosen edition n sources targets on off wait counts active signals .claimed) steps ≡ true
 unfolding chosen turns
-claimed-below zero steps sources targets on off wait counts active signals h = below-zero steps
-claimed-below (suc n) steps sources targets on off wait counts active signals h =
-    go (eqb (reason before (getD sources n 0) (getD targets n 0) (getD on n 0) (getD off n 0) (getD wait n 0) counts active signals) 0)
-    (claimed-below n steps sources targets on off wait counts active signals (λ t l. h t (omega arith)))
+claimed-below edition zero steps sources targets on off wait counts active signals h = below-zero steps
+claimed-below edition (suc n) steps sources targets on off wait counts active signals h =
+    go (eqb (reason before (getD sources n 0) (tested edition (getD targets n 0)) (getD on n 0) (getD off n 0) (getD wait n 0) counts active signals) 0)
+    (claimed-below edition n steps sources targets on off wait counts active signals (λ t l. h t (omega arith)))
   where
     before : Choice
-    before = turns (choosingAt sources targets on off wait counts active signals) noneTaken n
+    before = turns (choosingAt edition sources targets on off wait counts active signals) noneTaken n
 
     go : (b : Bool) → Below (before .claimed) steps ≡ true → Below (cond b (takes before n (getD sources n 0) (getD targets n 0)) before .claimed) steps ≡ true
     go true e = below-union (before .claimed) (getD targets n 0) steps e (h n (omega arith))
     go false e = e
 
 -- under hold none is claimed
-claimed-under : (b : Bool) (n steps : ℕ) (sources targets on off wait counts : List ℕ) (active signals : ℕ) → ((t : ℕ) → t < n → Below (getD targets t 0) steps ≡ true)
-    → Below (cond b noneTaken (chosen n sources targets on off wait counts active signals) .claimed) steps ≡ true
-claimed-under true n steps sources targets on off wait counts active signals h = below-zero steps
-claimed-under false n steps sources targets on off wait counts active signals h = claimed-below n steps sources targets on off wait counts active signals h
+claimed-under : (b : Bool) (edition n steps : ℕ) (sources targets on off wait counts : List ℕ) (active signals : ℕ) → ((t : ℕ) → t < n → Below (getD targets t 0) steps ≡ true)
+    → Below (cond b noneTaken (chosen edition n sources targets on off wait counts active signals) .claimed) steps ≡ true
+claimed-under true edition n steps sources targets on off wait counts active signals h = below-zero steps
+claimed-under false edition n steps sources targets on off wait counts active signals h = claimed-below edition n steps sources targets on off wait counts active signals h
 
 -- ---- start, and a cycle
 
@@ -157,15 +157,15 @@ cycled-own c r clock inputs s o =
     let ch = choiceOf c r counts signals in
     let x = actions-below c counts times (stepsOf (r .active) ch) (r .stored) (r .latched) s (o .stored) (o .latched) in
     record {
-      active = below-union _ _ (c .steps) (below-minus (r .active) (ch .left) (c .steps) (o .active)) (claimed-under (held (r .hold)) (c .transitions) (c .steps) (c .sources) (c .targets) (c .on) (c .off) (c .wait) counts (r .active) signals (s .targets));
+      active = below-union _ _ (c .steps) (below-minus (r .active) (ch .left) (c .steps) (o .active)) (claimed-under (held (r .hold)) (c .edition) (c .transitions) (c .steps) (c .sources) (c .targets) (c .on) (c .off) (c .wait) counts (r .active) signals (s .targets));
       activity = x .activity;
       stored = x .stored;
       latched = x .latched;
       good = below-union (r .good) _ (c .cases) (o .good) (below-collect _ (c .cases) (c .cases) (omega arith));
       bad = below-union (r .bad) _ (c .cases) (o .bad) (below-collect _ (c .cases) (c .cases) (omega arith));
-      counters = counters-fit counts (movedTo (r .active) ch) (minus (movedTo (r .active) ch) (ch .claimed))
+      counters = counters-fit counts (movedTo (r .active) ch) (minus (movedTo (r .active) ch) (enteredBy (r .active) ch))
           (λ k l. rw (getD-table (λ k. grownCount (r .active) f k (getD (r .counters) k (counter 0))) 64 k 0 l) (grown-fits (has (r .active) k) _ f))
-          (λ k l h. and-true (has (movedTo (r .active) ch) k) (not (has (ch .claimed) k)) (sym (has-minus (movedTo (r .active) ch) (ch .claimed) k l) ∙ h) .0);
+          (λ k l h. and-true (has (movedTo (r .active) ch) k) (not (has (enteredBy (r .active) ch) k)) (sym (has-minus (movedTo (r .active) ch) (enteredBy (r .active) ch) k l) ∙ h) .0);
       timers = timers-fit times _ (λ k l. rw (getD-table (λ k. grownTime (r .latched) e k (getD (r .timers) k (timer 0))) 32 k 0 l) (grown-fits (has (r .latched) k) _ e));
       hold = o .hold;
     }

@@ -8,7 +8,7 @@ use mir.Syntax.{w32}
 use mir.Val.{toZ}
 use Rattle.reader.specs.Numbers.{le}
 use Rattle.reader.specs.Bodies.{bodyOf, fieldsAt}
-use Rattle.reader.specs.declared.bodies.Body.the-variants.{Step, Action, Transition, Block, Case}
+use Rattle.reader.specs.declared.bodies.Body.the-variants.{Step, Action, Transition, Block, Case, Edition}
 use Rattle.reader.proofs.numbers.Laws.{le-one}
 
 module _ (s : List ℕ) (at : ℕ) where
@@ -33,3 +33,6 @@ module _ (s : List ℕ) (at : ℕ) where
 
   pub case-fields : bodyOf 5 (fieldsAt s 5 at) ≡ Case (getD s at 0) (getD s (at + 1) 0) (getD s (at + 2) 0)
   case-fields = rw (le-one s at, le-one s (at + 1), two, le-one s (at + 2))
+
+  pub edition-fields : bodyOf 6 (fieldsAt s 6 at) ≡ Edition (getD s at 0)
+  edition-fields = rw (le-one s at)

@@ -8,7 +8,8 @@ use lib.Dec.{leb, eqb}
 use native.Mathlib.Omega.{arith}
 use borrow.Author.Tests.{le-leb, lt-leb, leb-true, eq-eqb, ne-eqb, eqb-true, eqb-false}
 use Rattle.sets.proofs.Loops.{and-true}
-use Rattle.reader.specs.Framing.{lengthAt, kindAt, bodyLength, kindFits, headNumber, recordNumber, recordValues, numberOf, valuesOf, Answers, placeAfter, kindAfter}
+use Rattle.fields.specs.Fields.{kindFits}
+use Rattle.reader.specs.Framing.{lengthAt, kindAt, bodyLength, headNumber, recordNumber, recordValues, numberOf, valuesOf, Answers, placeAfter, kindAfter}
 use Rattle.reader.specs.declared.framing.Next.{Next}
 use Rattle.reader.specs.declared.framing.Next.the-variants.{Record, End, Refused}
 
@@ -97,14 +98,14 @@ is-found s at before k p n a = go (eqb (kindAt s at) 0) refl (rw (← a .number)
 -- its kind is one of a body's, not smaller than the kind before, and the body lies within the bytes
 pub record Known (s : List ℕ) (before k p : ℕ) : Type 0 where
   pub least : 1 ≤ k
-  pub most : k ≤ 5
+  pub most : k ≤ 6
   pub later : before ≤ k
   pub inside : p + bodyLength k ≤ length s
 
 pub is-known : (s : List ℕ) (at before k p n : ℕ) → Found s at before k p n → Known s before k p
 is-known s at before k p n f =
     let h = f .headed in
-    let b = and-true (leb (kindAt s at) 5) (eqb (kindAt s at) 0 || leb before (kindAt s at)) (h .fits) in
+    let b = and-true (leb (kindAt s at) 6) (eqb (kindAt s at) 0 || leb before (kindAt s at)) (h .fits) in
     let l : leb before (kindAt s at) ≡ true = rw (ne-eqb _ 0 (f .some)) at (b .1) in
     rw (f .kind, f .place)
     (record { least = positive (kindAt s at) (f .some); most = leb-true _ _ (b .0); later = leb-true _ _ l; inside = rw (h .sized) at (h .whole) })

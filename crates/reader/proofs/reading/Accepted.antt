@@ -1,4 +1,4 @@
--- What is true of every accepted reading: it passes the held test, it is zero beyond its counts, and its file has at most 6,436 bytes.
+-- What is true of every accepted reading: it passes the held test, it is zero beyond its counts, and its file has at most 6,441 bytes.
 -- A refused one has the all-zero chart.
 use Prim.Native.Nat.{ℕ, zero, suc, _+_, _≤_}
 use mathlib.Core.List.{List}
@@ -11,7 +11,7 @@ use native.Mathlib.Omega.{arith}
 use borrow.Author.Tests.{le-leb, eqb-true, eqb-false, ltb-false}
 use Rattle.sets.specs.Loops.{orElse}
 use Rattle.fields.specs.Fields.{unless}
-use Rattle.chart.specs.Chart.{noChart}
+use Rattle.chart.specs.Chart.{emptyChart, noChart}
 use Rattle.chart.specs.Held.{limitsFit, closingCode, heldCode, chartCode}
 use Rattle.chart.specs.declared.chart.Chart.{Chart}
 use Rattle.chart.proofs.held.Laws.{Limits}
@@ -21,7 +21,7 @@ use Rattle.reader.specs.Reading.{refused, accepted, closed, ended, withB
 use Rattle.reader.specs.declared.bodies.Body.{Body}
 use Rattle.reader.specs.declared.reading.Reading.{Reading}
 use Rattle.reader.proofs.framing.Laws.{Headed, is-headed, Known, is-known}
-use Rattle.reader.proofs.reading.Kept.{Column, Kept, kept-start, kept-step, kept-action, kept-transition, kept-block, kept-case}
+use Rattle.reader.proofs.reading.Kept.{Column, Kept, one-or-two, kept-start, kept-step, kept-action, kept-transition, kept-block, kept-case, kept-edition}
 
 -- "zeros beyond its counts"
 pub record Padded (c : Chart) : Type 0 where
@@ -45,7 +45,7 @@ pub record Accepted (s : List ℕ) (r : Reading) : Type 0 where
   pub place : r .place ≡ 0
   pub passes : chartCode (r .chart) ≡ 0
   pub padded : Padded (r .chart)
-  pub short : length s ≤ 6436
+  pub short : length s ≤ 6441
 
 -- ---- where an accepted reading ends
 
@@ -113,20 +113,21 @@ module _ (s : List ℕ) (Inv : ℕ → ℕ → Chart → Type 0) where
         head at before c i (readFrom f s (at + 4 + lengthAt s at) (kindAt s at)) (λ d o y. reads f (at + 4 + lengthAt s at) (kindAt s at) d o y)
         (bodyAt s (kindAt s at) (at + 4)) (more at before c i) (eqb (recordNumber s at before) 0) refl z
 
-    pub read-ends : Inv 0 0 noChart → readChart s .code ≡ 0 → Ends s Inv (readChart s)
-    read-ends i z = reads (length s + 1) 0 0 noChart i z
+    pub read-ends : Inv 0 0 (emptyChart 1) → readChart s .code ≡ 0 → Ends s Inv (readChart s)
+    read-ends i z = reads (length s + 1) 0 0 (emptyChart 1) i z
 
 -- ---- what is kept to the end
 
 -- what holds of each kind that has a body
-pub by-kind : (P : ℕ → Type 0) → P 1 → P 2 → P 3 → P 4 → P 5 → (k : ℕ) → 1 ≤ k → k ≤ 5 → P k
-by-kind P a b c d e zero l m = absurd (omega arith)
-by-kind P a b c d e (suc zero) l m = a
-by-kind P a b c d e (suc (suc zero)) l m = b
-by-kind P a b c d e (suc (suc (suc zero))) l m = c
-by-kind P a b c d e (suc (suc (suc (suc zero)))) l m = d
-by-kind P a b c d e (suc (suc (suc (suc (suc zero))))) l m = e
-by-kind P a b c d e (suc (suc (suc (suc (suc (suc k)))))) l m = absurd (omega arith)
+pub by-kind : (P : ℕ → Type 0) → P 1 → P 2 → P 3 → P 4 → P 5 → P 6 → (k : ℕ) → 1 ≤ k → k ≤ 6 → P k
+by-kind P a b c d e f zero l m = absurd (omega arith)
+by-kind P a b c d e f (suc zero) l m = a
+by-kind P a b c d e f (suc (suc zero)) l m = b
+by-kind P a b c d e f (suc (suc (suc zero))) l m = c
+by-kind P a b c d e f (suc (suc (suc (suc zero)))) l m = d
+by-kind P a b c d e f (suc (suc (suc (suc (suc zero))))) l m = e
+by-kind P a b c d e f (suc (suc (suc (suc (suc (suc zero)))))) l m = f
+by-kind P a b c d e f (suc (suc (suc (suc (suc (suc (suc k))))))) l m = absurd (omega arith)
 
 pub kept-on : (s : List ℕ) (at before : ℕ) (c : Chart) → Kept at before c → Headed s at before → Known s before (kindAt s at) (at + 4)
     → numberIn c (bodyAt s (kindAt s at) (at + 4)) ≡ 0 → Kept (at + 4 + lengthAt s at) (kindAt s at) (withBody c (bodyAt s (kindAt s at) (at + 4)))
@@ -139,6 +140,7 @@ kept-on s at before c h g w =
     (kept-transition at before c h _ _ _ _ _)
     (kept-block at before c h _ _ _ _)
     (kept-case at before c h _ _ _)
+    (kept-edition at before c h _)
     (kindAt s at) (w .least) (w .most) (w .later))
 
 both-zero : {a b : ℕ} → a ≡ 0 → b ≡ 0 → orElse a b ≡ 0
@@ -152,7 +154,7 @@ held-zero : (at before : ℕ) (c : Chart) → Kept at before c → closingCode (
 unfolding heldCode
 held-zero at before c k z =
     both-zero (ap (λ (fit : Bool). unless fit 4) (limits-hold _ _ _ _ _ (k .limits)))
-    (both-zero (k .steps-fine) (both-zero (k .actions-fine) (both-zero (k .transitions-fine) (both-zero (k .blocks-fine) (both-zero (k .cases-fine) z)))))
+    (both-zero (k .steps-fine) (both-zero (k .actions-fine) (both-zero (k .transitions-fine) (both-zero (k .blocks-fine) (both-zero (k .cases-fine) (both-zero (ap (λ (fit : Bool). unless fit 5) (k .edition-fine)) z))))))
 
 padding : (at before : ℕ) (c : Chart) → Kept at before c → Padded c
 padding at before c k = record {
@@ -180,6 +182,7 @@ read-accepted s z =
     let b = k .size in
     let h = k .limits in
     let n = e .size in
+    let d = one-or-two (readChart s .chart .edition) (k .edition-fine) .1 in
     record { place = e .place; passes = held-zero _ _ _ k (e .closing); padded = padding _ _ _ k; short = omega arith }
 
 -- ---- a refused reading
@@ -220,4 +223,4 @@ clean (suc f) s at before c =
     (clean-refused (recordNumber s at before) at)
 
 pub read-refused : (s : List ℕ) → (readChart s .code ≡ 0 → ⊥) → readChart s .chart ≡ noChart
-read-refused s = clean (length s + 1) s 0 0 noChart
+read-refused s = clean (length s + 1) s 0 0 (emptyChart 1)

@@ -1,21 +1,24 @@
 -- What reading keeps true of the chart it fills: its limits, its records' numbers, zeros beyond its counts, and how many bytes it took.
 use Prim.Native.Nat.{ℕ, zero, suc, _+_, _*_, _≤_, _<_}
 use mathlib.Core.List.{List}
+use mathlib.Core.Bool.{Bool, true, false}
 use mathlib.Core.Path.{_≡_, refl, _∙_}
 use lib.IntN.{ℤ, pos}
 use lib.ListN.{length, getD, set, replicate, length-set, length-replicate}
 use lib.Seq.{getD-set-same, getD-set-other}
 use native.Mathlib.Omega.{arith}
-use lib.Dec.{ltb}
+use lib.Dec.{ltb, eqb}
+use borrow.Author.Tests.{eqb-true}
 use Rattle.sets.specs.Loops.{firstCode}
 use Rattle.sets.proofs.Loops.{first-start, first-turn, first-same}
-use Rattle.fields.specs.Fields.{unless, stepFits, actionFits, transitionCode, blockFits, caseFits}
+use Rattle.fields.specs.Fields.{unless, stepFits, actionFits, transitionCode, blockFits, caseFits, editionFits, second}
 use Rattle.chart.specs.Held.{stepsCode, actionsCode, transitionsCode, blocksCode, casesCode, stepFitsAt, actionFitsAt, transitionCodeAt, blockFitsAt, caseFitsAt}
-use Rattle.chart.specs.Chart.{noChart, withStep, withAction, withTransition, withBlock, withCase}
+use Rattle.chart.specs.Chart.{emptyChart, withStep, withAction, withTransition, withBlock, withCase, withEdition}
 use Rattle.chart.specs.declared.chart.Chart.{Chart}
 use Rattle.chart.proofs.held.Laws.{Limits}
+use Rattle.chart.proofs.held.Sound.{fits}
 use Rattle.reader.specs.Reading.{numberIn}
-use Rattle.reader.specs.declared.bodies.Body.the-variants.{Step, Action, Transition, Block, Case}
+use Rattle.reader.specs.declared.bodies.Body.the-variants.{Step, Action, Transition, Block, Case, Edition}
 use Rattle.reader.proofs.reading.Laws.{room, limited-zero}
 
 -- ---- a column: as long as its limit, with zeros from the count on
@@ -106,10 +109,21 @@ cases-none : (n s a : ℕ) (l₁ l₂ l₃ : List ℕ) → n ≡ 0 → casesCode
 unfolding casesCode
 cases-none n s a l₁ l₂ l₃ e = rw e (first-start _)
 
+-- an edition is one of the two, and its record says the second
+pub one-or-two : (n : ℕ) → editionFits n ≡ true → (1 ≤ n) × (n ≤ 2)
+one-or-two n e = go (eqb n 1) refl
+  where
+    go : (t : Bool) → eqb n 1 ≡ t → (1 ≤ n) × (n ≤ 2)
+    go true q = let z = eqb-true n 1 q in (omega arith, omega arith)
+    go false q = let z = eqb-true n 2 (rw q at e) in (omega arith, omega arith)
+
+pub is-second : (n : ℕ) → unless (second n) 5 ≡ 0 → n ≡ 2
+is-second n e = eqb-true n 2 (fits (second n) 5 (λ z. omega arith) e)
+
 -- ---- what is kept, after `at` bytes
 
 pub record Kept (at before : ℕ) (c : Chart) : Type 0 where
-  pub size : at ≡ 5 * c .steps + 9 * c .actions + 40 * c .transitions + 11 * c .blocks + 7 * c .cases
+  pub size : at + 5 ≡ 5 * c .steps + 9 * c .actions + 40 * c .transitions + 11 * c .blocks + 7 * c .cases + 5 * c .edition
   pub limits : Limits (c .steps) (c .actions) (c .transitions) (c .blocks) (c .cases)
   pub early : before ≤ 2 → (c .transitions ≡ 0) × (c .blocks ≡ 0) × (c .cases ≡ 0)
   pub steps-fine : stepsCode (c .steps) (c .initial) ≡ 0
@@ -117,6 +131,7 @@ pub record Kept (at before : ℕ) (c : Chart) : Type 0 where
   pub transitions-fine : transitionsCode (c .transitions) (c .steps) (c .actions) (c .sources) (c .targets) (c .on) (c .off) (c .wait) ≡ 0
   pub blocks-fine : blocksCode (c .blocks) (c .steps) (c .actions) (c .blockstep) (c .blockaction) (c .qualifier) (c .duration) ≡ 0
   pub cases-fine : casesCode (c .cases) (c .steps) (c .actions) (c .casestep) (c .signal) (c .expected) ≡ 0
+  pub edition-fine : editionFits (c .edition) ≡ true
   pub initial : Column 0 64 (c .steps) (c .initial)
   pub output : Column 0 32 (c .actions) (c .output)
   pub value : Column (pos 0) 32 (c .actions) (c .value)
@@ -133,7 +148,7 @@ pub record Kept (at before : ℕ) (c : Chart) : Type 0 where
   pub signal : Column 0 64 (c .cases) (c .signal)
   pub expected : Column 0 64 (c .cases) (c .expected)
 
-pub kept-start : Kept 0 0 noChart
+pub kept-start : Kept 0 0 (emptyChart 1)
 unfolding stepsCode actionsCode transitionsCode blocksCode casesCode
 kept-start = record {
   size = refl;
@@ -144,6 +159,7 @@ kept-start = record {
   transitions-fine = first-start _;
   blocks-fine = first-start _;
   cases-fine = first-start _;
+  edition-fine = refl;
   initial = column-start 0 64;
   output = column-start 0 32;
   value = column-start (pos 0) 32;
@@ -178,6 +194,7 @@ module _ (at before : ℕ) (c : Chart) (h : Kept at before c) where
         transitions-fine = transitions-none _ _ _ _ _ _ _ _ (y .0);
         blocks-fine = blocks-none _ _ _ _ _ _ _ (y .1);
         cases-fine = cases-none _ _ _ _ _ _ (y .2);
+        edition-fine = h .edition-fine;
         initial = column-more 0 64 (c .steps) (c .initial) v₁ (h .initial) r;
         output = h .output;
         value = h .value;
@@ -211,6 +228,7 @@ module _ (at before : ℕ) (c : Chart) (h : Kept at before c) where
         transitions-fine = transitions-none _ _ _ _ _ _ _ _ (y .0);
         blocks-fine = blocks-none _ _ _ _ _ _ _ (y .1);
         cases-fine = cases-none _ _ _ _ _ _ (y .2);
+        edition-fine = h .edition-fine;
         initial = h .initial;
         output = column-more 0 32 (c .actions) (c .output) v₁ (h .output) r;
         value = column-more (pos 0) 32 (c .actions) (c .value) v₂ (h .value) r;
@@ -243,6 +261,7 @@ module _ (at before : ℕ) (c : Chart) (h : Kept at before c) where
         transitions-fine = transitions-more (c .transitions) (c .steps) (c .actions) (c .sources) (c .targets) (c .on) (c .off) (c .wait) v₁ v₂ v₃ v₄ v₅ (h .sources) (h .targets) (h .on) (h .off) (h .wait) r x (h .transitions-fine);
         blocks-fine = h .blocks-fine;
         cases-fine = h .cases-fine;
+        edition-fine = h .edition-fine;
         initial = h .initial;
         output = h .output;
         value = h .value;
@@ -275,6 +294,7 @@ module _ (at before : ℕ) (c : Chart) (h : Kept at before c) where
         transitions-fine = h .transitions-fine;
         blocks-fine = blocks-more (c .blocks) (c .steps) (c .actions) (c .blockstep) (c .blockaction) (c .qualifier) (c .duration) v₁ v₂ v₃ v₄ (h .blockstep) (h .blockaction) (h .qualifier) (h .duration) r x (h .blocks-fine);
         cases-fine = h .cases-fine;
+        edition-fine = h .edition-fine;
         initial = h .initial;
         output = h .output;
         value = h .value;
@@ -307,6 +327,7 @@ module _ (at before : ℕ) (c : Chart) (h : Kept at before c) where
         transitions-fine = h .transitions-fine;
         blocks-fine = h .blocks-fine;
         cases-fine = cases-more (c .cases) (c .steps) (c .actions) (c .casestep) (c .signal) (c .expected) v₁ v₂ v₃ (h .casestep) (h .signal) (h .expected) r x (h .cases-fine);
+        edition-fine = h .edition-fine;
         initial = h .initial;
         output = h .output;
         value = h .value;
@@ -322,4 +343,37 @@ module _ (at before : ℕ) (c : Chart) (h : Kept at before c) where
         casestep = column-more 0 64 (c .cases) (c .casestep) v₁ (h .casestep) r;
         signal = column-more 0 64 (c .cases) (c .signal) v₂ (h .signal) r;
         expected = column-more 0 64 (c .cases) (c .expected) v₃ (h .expected) r;
+      }
+
+  pub kept-edition : (v₁ : ℕ) → before ≤ 6 → numberIn c (Edition v₁) ≡ 0 → Kept (at + 4 + 1) 6 (withEdition c v₁)
+  kept-edition v₁ b e =
+      let r : c .edition < 2 = room c (Edition v₁) e in
+      let x = is-second v₁ (limited-zero (ltb (c .edition) 2) (unless (second v₁) 5) e .1) in
+      let f = one-or-two (c .edition) (h .edition-fine) .0 in
+      let s = h .size in
+      record {
+        size = omega arith;
+        limits = h .limits;
+        early = λ z. absurd (omega arith);
+        steps-fine = h .steps-fine;
+        actions-fine = h .actions-fine;
+        transitions-fine = h .transitions-fine;
+        blocks-fine = h .blocks-fine;
+        cases-fine = h .cases-fine;
+        edition-fine = rw x refl;
+        initial = h .initial;
+        output = h .output;
+        value = h .value;
+        sources = h .sources;
+        targets = h .targets;
+        on = h .on;
+        off = h .off;
+        wait = h .wait;
+        blockstep = h .blockstep;
+        blockaction = h .blockaction;
+        qualifier = h .qualifier;
+        duration = h .duration;
+        casestep = h .casestep;
+        signal = h .signal;
+        expected = h .expected;
       }

@@ -7,14 +7,14 @@ use lib.ListN.{length}
 use lib.Dec.{eqb}
 use native.Mathlib.Omega.{arith}
 use borrow.Author.Tests.{eq-eqb, ne-eqb, ltb-true, lt-ltb, le-ltb}
-use Rattle.chart.specs.Chart.{noChart}
+use Rattle.chart.specs.Chart.{emptyChart}
 use Rattle.chart.specs.Held.{closingCode}
 use Rattle.chart.specs.declared.chart.Chart.{Chart}
 use Rattle.reader.specs.Framing.{lengthAt, kindAt, recordNumber}
 use Rattle.reader.specs.Bodies.{bodyAt, limited}
 use Rattle.reader.specs.Reading.{refused, accepted, ended, withBody, numberIn, taken, readFrom, readChart}
 use Rattle.reader.specs.declared.bodies.Body.{Body}
-use Rattle.reader.specs.declared.bodies.Body.the-variants.{Step, Action, Transition, Block, Case}
+use Rattle.reader.specs.declared.bodies.Body.the-variants.{Step, Action, Transition, Block, Case, Edition}
 use Rattle.reader.proofs.framing.Laws.{Found}
 
 -- ---- a body whose number is 0
@@ -30,6 +30,7 @@ Room c (Action o v) = c .actions < 32
 Room c (Transition s t on off w) = c .transitions < 64
 Room c (Block s a q d) = c .blocks < 256
 Room c (Case s n e) = c .cases < 64
+Room c (Edition x) = c .edition < 2
 
 pub room : (c : Chart) (b : Body) → numberIn c b ≡ 0 → Room c b
 room c (Step i) e = ltb-true _ _ (limited-zero _ _ e .0)
@@ -37,6 +38,7 @@ room c (Action o v) e = ltb-true _ _ (limited-zero _ _ e .0)
 room c (Transition s t on off w) e = ltb-true _ _ (limited-zero _ _ e .0)
 room c (Block s a q d) e = ltb-true _ _ (limited-zero _ _ e .0)
 room c (Case s n m) e = ltb-true _ _ (limited-zero _ _ e .0)
+room c (Edition x) e = ltb-true _ _ (limited-zero _ _ e .0)
 
 -- ---- after the end record
 
@@ -61,7 +63,7 @@ pub record Onward (s : List ℕ) (at before : ℕ) (c : Chart) : Type 0 where
   pub enough : length s - at < fuel
   pub same : readFrom fuel s at before c ≡ readChart s
 
-pub begin : (s : List ℕ) → Onward s 0 0 noChart
+pub begin : (s : List ℕ) → Onward s 0 0 (emptyChart 1)
 begin s = record { fuel = length s + 1; enough = omega arith; same = refl }
 
 record Turn (s : List ℕ) (at before : ℕ) (c : Chart) : Type 0 where

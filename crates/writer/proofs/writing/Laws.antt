@@ -1,5 +1,5 @@
 -- Pieces written one behind the other, as each loop writes a kind's records and the whole writes the kinds; and the answer by the tests.
-use Prim.Native.Nat.{ℕ, zero, suc, _+_, _*_, _≤_, _<_}
+use Prim.Native.Nat.{ℕ, zero, suc, _+_, _-_, _*_, _≤_, _<_}
 use mathlib.Core.List.{List, [], _∷_}
 use mathlib.Core.Bool.{cond}
 use mathlib.Core.Logic.{⊎-elim}
@@ -17,7 +17,7 @@ use Rattle.chart.specs.declared.chart.Chart.{Chart}
 use Rattle.reader.specs.Framing.{recordBytes}
 use Rattle.reader.specs.Bodies.{recordOf}
 use Rattle.reader.specs.declared.bodies.Body.{Body}
-use Rattle.writer.specs.Writing.{stepIn, actionIn, transitionIn, blockIn, caseIn, joined, records, stepRecords, actionRecords, transitionRecords, blockRecords, caseRecords, fileOf, fileLength, writeCode, wrote, refused, writeChart}
+use Rattle.writer.specs.Writing.{stepIn, actionIn, transitionIn, blockIn, caseIn, editionIn, joined, records, stepRecords, actionRecords, transitionRecords, blockRecords, caseRecords, editionRecords, fileOf, fileLength, writeCode, wrote, refused, writeChart}
 use Rattle.writer.specs.declared.writing.Writing.{Writing}
 
 -- ---- pieces one behind the other
@@ -76,9 +76,9 @@ records-start body w e at n each h = passed-start (recordIn body) e at n (rw (re
 -- its pieces
 abbrev pub piece : Chart → ℕ → List ℕ
 piece c k =
-    getD (stepRecords c ∷ actionRecords c ∷ transitionRecords c ∷ blockRecords c ∷ caseRecords c ∷ recordBytes 0 [] ∷ []) k []
+    getD (stepRecords c ∷ actionRecords c ∷ transitionRecords c ∷ blockRecords c ∷ caseRecords c ∷ editionRecords c ∷ recordBytes 0 [] ∷ []) k []
 
-pub file-joined : (c : Chart) → fileOf c ≡ joined (piece c) 6
+pub file-joined : (c : Chart) → fileOf c ≡ joined (piece c) 7
 unfolding fileOf joined
 file-joined c = refl
 
@@ -98,14 +98,17 @@ blocks-length c = records-length (blockIn (c .blockstep) (c .blockaction) (c .qu
 pub cases-length : (c : Chart) → length (piece c 4) ≡ 7 * c .cases
 cases-length c = records-length (caseIn (c .casestep) (c .signal) (c .expected)) 7 (c .cases) (λ i. refl)
 
-pub file-length : (c : Chart) → length (fileOf c) ≡ fileLength (c .steps) (c .actions) (c .transitions) (c .blocks) (c .cases)
+pub edition-length : (c : Chart) → length (piece c 5) ≡ 5 * (c .edition - 1)
+edition-length c = records-length editionIn 5 (c .edition - 1) (λ i. refl)
+
+pub file-length : (c : Chart) → length (fileOf c) ≡ fileLength (c .steps) (c .actions) (c .transitions) (c .blocks) (c .cases) (c .edition)
 unfolding joined
 file-length c =
     let u = piece c in
-    omega (arith, ap length (file-joined c), length-append (joined u 5) (u 5), length-append (joined u 4) (u 4), length-append (joined u 3) (u 3), length-append (joined u 2) (u 2), length-append (u 0) (u 1), steps-length c, actions-length c, transitions-length c, blocks-length c, cases-length c)
+    omega (arith, ap length (file-joined c), length-append (joined u 6) (u 6), length-append (joined u 5) (u 5), length-append (joined u 4) (u 4), length-append (joined u 3) (u 3), length-append (joined u 2) (u 2), length-append (u 0) (u 1), steps-length c, actions-length c, transitions-length c, blocks-length c, cases-length c, edition-length c)
 
-pub file-start : (c : Chart) (e : List ℕ) → length (fileOf c) ≤ length e → Passed (piece c) e 0 6 e 0 0
-file-start c e h = passed-start (piece c) e 0 6 (omega (arith, h, ap length (file-joined c)))
+pub file-start : (c : Chart) (e : List ℕ) → length (fileOf c) ≤ length e → Passed (piece c) e 0 7 e 0 0
+file-start c e h = passed-start (piece c) e 0 7 (omega (arith, h, ap length (file-joined c)))
 
 -- ---- the answer by the tests in their order
 

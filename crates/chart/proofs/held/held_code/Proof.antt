@@ -41,8 +41,14 @@ blocks-code-requires c κs = let k = kept (c .before .before .before .before .be
 cases-code-requires : tie.Need-cases-code-requires
 cases-code-requires c κs = let k = kept (c .before .before .before .before .before .before .before) in (k .cases, k .steps, k .actions)
 
+edition-fits-requires : tie.Need-edition-fits-requires
+edition-fits-requires c κs = search needs
+
+unless-requires-2 : tie.Need-unless-requires-2
+unless-requires-2 c κs = search needs
+
 timed-twice-requires : tie.Need-timed-twice-requires
-timed-twice-requires c κs = kept (c .before .before .before .before .before .before .before .before) .blocks
+timed-twice-requires c κs = kept (c .before .before .before .before .before .before .before .before .before .before) .blocks
 
 closing-requires : tie.Need-closing-requires
 closing-requires c κs = search needs
@@ -62,12 +68,16 @@ or-else-requires-4 c κs = search needs
 or-else-requires-5 : tie.Need-or-else-requires-5
 or-else-requires-5 c κs = search needs
 
+or-else-requires-6 : tie.Need-or-else-requires-6
+or-else-requires-6 c κs = search needs
+
 returns-2 : tie.Need-returns-2
 unfolding heldCode
 returns-2 c =
-    let closing = c .before .before .before .before .before in
+    let closing = c .before .before .before .before .before .before in
     let twice = closing .before in
-    let cases = twice .before in
+    let edition = twice .before in
+    let cases = edition .before .before in
     let blocks = cases .before in
     let transitions = blocks .before in
     let actions = transitions .before in
@@ -77,19 +87,22 @@ returns-2 c =
     let a = limited .before .before .args in
     rw (
       sym (limited .before .limits-fit .ensures) ∙ not-false _ (limited .if1 .left),
-      c .or-else5 .ensures,
-      c .before .or-else4 .ensures,
-      c .before .before .or-else3 .ensures,
-      c .before .before .before .or-else2 .ensures,
-      c .before .before .before .before .or-else .ensures,
+      c .or-else6 .ensures,
+      c .before .or-else5 .ensures,
+      c .before .before .or-else4 .ensures,
+      c .before .before .before .or-else3 .ensures,
+      c .before .before .before .before .or-else2 .ensures,
+      c .before .before .before .before .before .or-else .ensures,
       closing .closing .ensures,
       fit .unless .ensures,
       fit .before .step-fits .ensures,
       mark .largest .ensures,
     )
-    (marks-code (a .steps) (now (a .initial)) (actions .actions-code .result) (transitions .transitions-code .result) (blocks .blocks-code .result) (cases .cases-code .result) (unless (not (twice .timed-twice .result)) 8)
+    (marks-code (a .steps) (now (a .initial)) (actions .actions-code .result) (transitions .transitions-code .result) (blocks .blocks-code .result) (cases .cases-code .result) (edition .unless2 .result) (unless (not (twice .timed-twice .result)) 8)
     ∙ rw (
       twice .timed-twice .ensures,
+      edition .unless2 .ensures,
+      edition .before .edition-fits .ensures,
       cases .cases-code .ensures,
       blocks .blocks-code .ensures,
       transitions .transitions-code .ensures,
@@ -109,6 +122,8 @@ held-code-spec =
     transitions-code-requires
     blocks-code-requires
     cases-code-requires
+    edition-fits-requires
+    unless-requires-2
     timed-twice-requires
     closing-requires
     or-else-requires
@@ -116,4 +131,5 @@ held-code-spec =
     or-else-requires-3
     or-else-requires-4
     or-else-requires-5
+    or-else-requires-6
     returns-2)

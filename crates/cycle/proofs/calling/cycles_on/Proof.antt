@@ -20,19 +20,19 @@ use Rattle.cycle.proofs.calling.cycles_on.Statement.{statement}
 use Rattle.cycle.proofs.calling.cycles_on.Tie as tie
 
 abbrev Inv-loop : tie.InvT-loop
-Inv-loop steps actions transitions blocks cases initial output value sources targets on off wait blockstep blockaction qualifier duration casestep signal expected counts₀ times₀ clocks inputs activities₀ outputs₀ held code last words₀ taken₀ k₀ counts times activities outputs words taken k =
-    let chart = chartOf steps actions transitions blocks cases initial output value sources targets on off wait blockstep blockaction qualifier duration casestep signal expected in
+Inv-loop steps actions transitions blocks cases initial output value sources targets on off wait blockstep blockaction qualifier duration casestep signal expected edition counts₀ times₀ clocks inputs activities₀ outputs₀ held code last words₀ taken₀ k₀ counts times activities outputs words taken k =
+    let chart = chartOf steps actions transitions blocks cases initial output value sources targets on off wait blockstep blockaction qualifier duration casestep signal expected edition in
     let run = runOf words counts times in
     (madeOf 0 k taken run activities outputs ≡ singly chart (runOf words₀ counts₀ times₀) clocks inputs activities₀ outputs₀ k) × (readyCode chart run (length outputs) ≡ 0) × (k ≤ last) × (length activities ≡ length activities₀) × (length outputs ≡ length outputs₀) × (length counts ≡ 64) × (length times ≡ 32)
 
 abbrev μ-loop : tie.MeasureT-loop
-μ-loop steps actions transitions blocks cases initial output value sources targets on off wait blockstep blockaction qualifier duration casestep signal expected counts₀ times₀ clocks inputs activities₀ outputs₀ held code last words₀ taken₀ k₀ counts times activities outputs words taken k =
+μ-loop steps actions transitions blocks cases initial output value sources targets on off wait blockstep blockaction qualifier duration casestep signal expected edition counts₀ times₀ clocks inputs activities₀ outputs₀ held code last words₀ taken₀ k₀ counts times activities outputs words taken k =
     last - k
 
 abbrev chart : tie.Start Inv-loop μ-loop → Chart
 chart s =
     let a = s .args in
-    chartOf (a .steps) (a .actions) (a .transitions) (a .blocks) (a .cases) (now (a .initial)) (now (a .output)) (now (a .value)) (now (a .sources)) (now (a .targets)) (now (a .on)) (now (a .off)) (now (a .wait)) (now (a .blockstep)) (now (a .blockaction)) (now (a .qualifier)) (now (a .duration)) (now (a .casestep)) (now (a .signal)) (now (a .expected))
+    chartOf (a .steps) (a .actions) (a .transitions) (a .blocks) (a .cases) (now (a .initial)) (now (a .output)) (now (a .value)) (now (a .sources)) (now (a .targets)) (now (a .on)) (now (a .off)) (now (a .wait)) (now (a .blockstep)) (now (a .blockaction)) (now (a .qualifier)) (now (a .duration)) (now (a .casestep)) (now (a .signal)) (now (a .expected)) (a .edition)
 
 abbrev given : tie.Start Inv-loop μ-loop → Run
 given s = runOf (s .args .first) (now (s .args .counts)) (now (s .args .times))

@@ -19,7 +19,7 @@ use Rattle.cycle.proofs.stepping.step.Tie as tie
 abbrev chart : tie.Start → Chart
 chart s =
     let a = s .args in
-    chartOf (a .steps) (a .actions) (a .transitions) (a .blocks) (a .cases) (now (a .initial)) (now (a .output)) (now (a .value)) (now (a .sources)) (now (a .targets)) (now (a .on)) (now (a .off)) (now (a .wait)) (now (a .blockstep)) (now (a .blockaction)) (now (a .qualifier)) (now (a .duration)) (now (a .casestep)) (now (a .signal)) (now (a .expected))
+    chartOf (a .steps) (a .actions) (a .transitions) (a .blocks) (a .cases) (now (a .initial)) (now (a .output)) (now (a .value)) (now (a .sources)) (now (a .targets)) (now (a .on)) (now (a .off)) (now (a .wait)) (now (a .blockstep)) (now (a .blockaction)) (now (a .qualifier)) (now (a .duration)) (now (a .casestep)) (now (a .signal)) (now (a .expected)) (a .edition)
 
 abbrev run : tie.Start → Run
 run s = runOf (s .args .words) (now (s .args .counts)) (now (s .args .times))

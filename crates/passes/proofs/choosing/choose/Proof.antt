@@ -11,10 +11,10 @@ use Rattle.passes.proofs.choosing.choose.Statement.{statement}
 use Rattle.passes.proofs.choosing.choose.Tie as tie
 
 abbrev Inv-loop : tie.InvT-loop
-Inv-loop hold n sources targets on off wait counts active signals choice₀ last t₀ choice t = (choice ≡ turns (choosingAt sources targets on off wait counts active signals) noneTaken t) × (t ≤ last)
+Inv-loop hold edition n sources targets on off wait counts active signals choice₀ last t₀ choice t = (choice ≡ turns (choosingAt edition sources targets on off wait counts active signals) noneTaken t) × (t ≤ last)
 
 abbrev μ-loop : tie.MeasureT-loop
-μ-loop hold n sources targets on off wait counts active signals choice₀ last t₀ choice t = last - t
+μ-loop hold edition n sources targets on off wait counts active signals choice₀ last t₀ choice t = last - t
 
 returns : tie.Need-returns Inv-loop μ-loop
 returns c = rw (eq-eqb _ 1 (c .if1 .taken))

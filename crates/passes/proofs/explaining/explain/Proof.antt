@@ -10,7 +10,7 @@ hold-all-requires : tie.Need-hold-all-requires
 hold-all-requires c κs = search needs
 
 returns : tie.Need-returns
-returns c = c .hold-all .ensures ∙ all-held _ _ _ _ _ _ _ _ _ _ (eq-eqb _ 1 (c .before .before .if1 .taken))
+returns c = c .hold-all .ensures ∙ all-held _ _ _ _ _ _ _ _ _ _ _ (eq-eqb _ 1 (c .before .before .if1 .taken))
 
 elapsed-requires : tie.Need-elapsed-requires
 elapsed-requires c κs = search needs
@@ -29,7 +29,7 @@ returns-2 c =
     let signals = c .before .before .before in
     let free = ne-eqb _ 1 (signals .before .before .before .if1 .left) in
     rw free
-    (rw (signals .signals-of .ensures, signals .before .grown-counts .ensures, signals .before .before .elapsed .ensures) at (c .explain .ensures) ∙ none-held _ _ _ _ _ _ _ _ _ _ free)
+    (rw (signals .signals-of .ensures, signals .before .grown-counts .ensures, signals .before .before .elapsed .ensures) at (c .explain .ensures) ∙ none-held _ _ _ _ _ _ _ _ _ _ _ free)
 
 pub explain-spec : {M : Type 1} → statement M
 explain-spec =

@@ -7,14 +7,15 @@ use Rattle.reader.specs.Framing.{bodyLength}
 use Rattle.reader.proofs.framing.body_length.Statement.{statement}
 use Rattle.reader.proofs.framing.body_length.Tie as tie
 
-no-body : (k : ℕ) → (0 < k → k < 6 → ⊥) → 0 ≡ bodyLength k
+no-body : (k : ℕ) → (0 < k → k < 7 → ⊥) → 0 ≡ bodyLength k
 no-body zero h = refl
 no-body (suc zero) h = absurd (h (omega arith) (omega arith))
 no-body (suc (suc zero)) h = absurd (h (omega arith) (omega arith))
 no-body (suc (suc (suc zero))) h = absurd (h (omega arith) (omega arith))
 no-body (suc (suc (suc (suc zero)))) h = absurd (h (omega arith) (omega arith))
 no-body (suc (suc (suc (suc (suc zero))))) h = absurd (h (omega arith) (omega arith))
-no-body (suc (suc (suc (suc (suc (suc k)))))) h = refl
+no-body (suc (suc (suc (suc (suc (suc zero)))))) h = absurd (h (omega arith) (omega arith))
+no-body (suc (suc (suc (suc (suc (suc (suc k))))))) h = refl
 
 returns : tie.Need-returns
 returns c = search needs
@@ -32,7 +33,10 @@ returns-5 : tie.Need-returns-5
 returns-5 c = search needs
 
 returns-6 : tie.Need-returns-6
-returns-6 c = no-body (c .before .args .kind) (λ a b. omega arith)
+returns-6 c = search needs
+
+returns-7 : tie.Need-returns-7
+returns-7 c = no-body (c .before .args .kind) (λ a b. omega arith)
 
 pub body-length-spec : {M : Type 1} → statement M
-body-length-spec = tie.close (tie.spec returns returns-2 returns-3 returns-4 returns-5 returns-6)
+body-length-spec = tie.close (tie.spec returns returns-2 returns-3 returns-4 returns-5 returns-6 returns-7)

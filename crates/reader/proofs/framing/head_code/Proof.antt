@@ -4,7 +4,8 @@ use mathlib.Core.Path.{_≡_, _∙_, sym}
 use lib.Dec.{eqb}
 use native.Mathlib.Omega.{arith}
 use borrow.Author.Tests.{le-leb, lt-leb, eq-eqb, ne-eqb, not-true, not-false}
-use Rattle.reader.specs.Framing.{kindFits, bodyLength}
+use Rattle.fields.specs.Fields.{kindFits}
+use Rattle.reader.specs.Framing.{bodyLength}
 use borrow.Author.Needs.{needs}
 use Rattle.reader.proofs.framing.head_code.Statement.{statement}
 use Rattle.reader.proofs.framing.head_code.Tie as tie

@@ -1,5 +1,5 @@
 -- The invariant: reading on from here gives the whole answer. Each turn goes past a head, so the bytes that are left fall. Refusals leave the loop
--- from eight places, which meet behind it.
+-- from nine places, which meet behind it.
 use mir.Val.{SFits}
 use mir.Syntax.{w32}
 use mir.Facts.{toZ-ofZ}
@@ -22,11 +22,11 @@ use Rattle.reader.proofs.reading.read_into.Statement.{statement}
 use Rattle.reader.proofs.reading.read_into.Tie as tie
 
 abbrev Inv-loop : tie.InvT-loop
-Inv-loop bytes initial₀ output₀ value₀ sources₀ targets₀ on₀ off₀ wait₀ blockstep₀ blockaction₀ qualifier₀ duration₀ casestep₀ signal₀ expected₀ steps₀ actions₀ transitions₀ blocks₀ cases₀ at₀ before₀ initial output value sources targets on off wait blockstep blockaction qualifier duration casestep signal expected steps actions transitions blocks cases at before =
-    Onward bytes at before (chartOf steps actions transitions blocks cases initial output value sources targets on off wait blockstep blockaction qualifier duration casestep signal expected)
+Inv-loop bytes initial₀ output₀ value₀ sources₀ targets₀ on₀ off₀ wait₀ blockstep₀ blockaction₀ qualifier₀ duration₀ casestep₀ signal₀ expected₀ steps₀ actions₀ transitions₀ blocks₀ cases₀ edition₀ at₀ before₀ initial output value sources targets on off wait blockstep blockaction qualifier duration casestep signal expected steps actions transitions blocks cases edition at before =
+    Onward bytes at before (chartOf steps actions transitions blocks cases initial output value sources targets on off wait blockstep blockaction qualifier duration casestep signal expected edition)
 
 abbrev μ-loop : tie.MeasureT-loop
-μ-loop bytes initial₀ output₀ value₀ sources₀ targets₀ on₀ off₀ wait₀ blockstep₀ blockaction₀ qualifier₀ duration₀ casestep₀ signal₀ expected₀ steps₀ actions₀ transitions₀ blocks₀ cases₀ at₀ before₀ initial output value sources targets on off wait blockstep blockaction qualifier duration casestep signal expected steps actions transitions blocks cases at before =
+μ-loop bytes initial₀ output₀ value₀ sources₀ targets₀ on₀ off₀ wait₀ blockstep₀ blockaction₀ qualifier₀ duration₀ casestep₀ signal₀ expected₀ steps₀ actions₀ transitions₀ blocks₀ cases₀ edition₀ at₀ before₀ initial output value sources targets on off wait blockstep blockaction qualifier duration casestep signal expected steps actions transitions blocks cases edition at before =
     length bytes - at
 
 -- the bytes, and the chart so far, at the loop's head
@@ -34,7 +34,7 @@ abbrev bytes : tie.At-loop Inv-loop μ-loop → List ℕ
 bytes l = now (l .before .before .before .before .before .before .before .before .before .before .before .before .before .before .before .before .before .args .bytes)
 
 abbrev chart : tie.At-loop Inv-loop μ-loop → Chart
-chart l = let d = l .loop in chartOf (d .steps) (d .actions) (d .transitions) (d .blocks) (d .cases) (d .initial) (d .output) (d .value) (d .sources) (d .targets) (d .on) (d .off) (d .wait) (d .blockstep) (d .blockaction) (d .qualifier) (d .duration) (d .casestep) (d .signal) (d .expected)
+chart l = let d = l .loop in chartOf (d .steps) (d .actions) (d .transitions) (d .blocks) (d .cases) (d .initial) (d .output) (d .value) (d .sources) (d .targets) (d .on) (d .off) (d .wait) (d .blockstep) (d .blockaction) (d .qualifier) (d .duration) (d .casestep) (d .signal) (d .expected) (d .edition)
 
 -- the turn that a body is read in, the record, and where the next one begins
 abbrev turn : tie.After-body-at Inv-loop μ-loop → tie.At-loop Inv-loop μ-loop
@@ -271,7 +271,19 @@ loop-less-5 c = shrinks (c .before .before .before .before .before)
 loop-again-5 : tie.Need-loop-again-5 Inv-loop μ-loop
 loop-again-5 c = goes-on (c .before .before .before .before .before) (c .before .before .before .body5 .given .1) (c .before .case-code .ensures) (c .if7 .left)
 
--- a refusal is the whole answer, from each of the eight places
+enum-known-body-6 : tie.Need-enum-known-body-6 Inv-loop μ-loop
+enum-known-body-6 c = search needs
+
+edition-code-requires : tie.Need-edition-code-requires Inv-loop μ-loop
+edition-code-requires c κs = search needs
+
+loop-less-6 : tie.Need-loop-less-6 Inv-loop μ-loop
+loop-less-6 c = shrinks (c .before .before .before .before .before)
+
+loop-again-6 : tie.Need-loop-again-6 Inv-loop μ-loop
+loop-again-6 c = goes-on (c .before .before .before .before .before) (c .before .before .before .body6 .given .1) (c .before .edition-code .ensures) (c .if8 .left)
+
+-- a refusal is the whole answer, from each of the nine places
 stopped : (c : tie.At-match-came Inv-loop μ-loop) → refused (c .match .code) (c .match .place) ≡ readChart (bytes (c .before .before))
 stopped c =
     let b = c .before in
@@ -293,7 +305,8 @@ stopped c =
     (⊎-elim (λ (m, n, t, y, k, x, u, s, f, p, q, code, place). rw (code, place) (stops (record { before = record { before = record { before = record { before = b; match = m }; next2 = n }; known-told2 = t }; body-at = y }) (x .given .1) (s .ensures) (f .taken)))
     (⊎-elim (λ (m, n, t, y, k, x, u, s, f, p, q, code, place). rw (code, place) (stops (record { before = record { before = record { before = record { before = b; match = m }; next2 = n }; known-told2 = t }; body-at = y }) (x .given .1) (s .ensures) (f .taken)))
     (⊎-elim (λ (m, n, t, y, k, x, u, s, f, p, q, code, place). rw (code, place) (stops (record { before = record { before = record { before = record { before = b; match = m }; next2 = n }; known-told2 = t }; body-at = y }) (x .given .1) (s .ensures) (f .taken)))
-    (λ (m, n, t, y, k, x, u, s, f, p, q, code, place). rw (code, place) (stops (record { before = record { before = record { before = record { before = b; match = m }; next2 = n }; known-told2 = t }; body-at = y }) (x .given .1) (s .ensures) (f .taken))))))))) (c .match .came)
+    (⊎-elim (λ (m, n, t, y, k, x, u, s, f, p, q, code, place). rw (code, place) (stops (record { before = record { before = record { before = record { before = b; match = m }; next2 = n }; known-told2 = t }; body-at = y }) (x .given .1) (s .ensures) (f .taken)))
+    (λ (m, n, t, y, k, x, u, s, f, p, q, code, place). rw (code, place) (stops (record { before = record { before = record { before = record { before = b; match = m }; next2 = n }; known-told2 = t }; body-at = y }) (x .given .1) (s .ensures) (f .taken)))))))))) (c .match .came)
 
 returns-2 : tie.Need-returns-2 Inv-loop μ-loop
 returns-2 c = stopped (c .before .before .before .before .before .before .before .before .before .before .before .before .before .before .before)
@@ -361,4 +374,8 @@ read-into-spec =
     add-cases
     loop-less-5
     loop-again-5
+    enum-known-body-6
+    edition-code-requires
+    loop-less-6
+    loop-again-6
     returns-2)

@@ -19,7 +19,7 @@ use Rattle.tally.proofs.tallying.tally_on.Tie as tie
 abbrev chart : tie.Start → Chart
 chart s =
     let a = s .args in
-    chartOf (a .steps) (a .actions) (a .transitions) (a .blocks) (a .cases) (now (a .initial)) (now (a .output)) (now (a .value)) (now (a .sources)) (now (a .targets)) (now (a .on)) (now (a .off)) (now (a .wait)) (now (a .blockstep)) (now (a .blockaction)) (now (a .qualifier)) (now (a .duration)) (now (a .casestep)) (now (a .signal)) (now (a .expected))
+    chartOf (a .steps) (a .actions) (a .transitions) (a .blocks) (a .cases) (now (a .initial)) (now (a .output)) (now (a .value)) (now (a .sources)) (now (a .targets)) (now (a .on)) (now (a .off)) (now (a .wait)) (now (a .blockstep)) (now (a .blockaction)) (now (a .qualifier)) (now (a .duration)) (now (a .casestep)) (now (a .signal)) (now (a .expected)) (a .edition)
 
 abbrev run : tie.Start → Run
 run s = let a = s .args in runOf (a .words) (now (a .counts)) (now (a .times))
@@ -75,8 +75,8 @@ size-requires-2 c κs = search needs
 size-requires-3 : tie.Need-size-requires-3
 size-requires-3 c κs = search needs
 
-sub-t31 : tie.Need-sub-t31
-sub-t31 c =
+sub-t32 : tie.Need-sub-t32
+sub-t32 c =
     let begun = c .before .before .before .before .before in
     let a = call begun .args in
     let o = run-own begun in
@@ -120,5 +120,5 @@ tally-on-spec =
     without-requires
     size-requires-2
     size-requires-3
-    sub-t31
+    sub-t32
     returns-3)

@@ -11,14 +11,14 @@ use Rattle.chart.specs.Held.{chartCode}
 use Rattle.chart.specs.declared.chart.Chart.{Chart}
 use Rattle.chart.proofs.held.Sound.{Sound, sound}
 use Rattle.writer.specs.Writing.{fileOf}
-use Rattle.writer.proofs.writing.Laws.{Passed, passed-kept, passed-room, passed-turn, passed-all, steps-length, actions-length, transitions-length, blocks-length, cases-length, piece, file-joined, file-length, file-start, chart-refused, too-few, written}
+use Rattle.writer.proofs.writing.Laws.{Passed, passed-kept, passed-room, passed-turn, passed-all, steps-length, actions-length, transitions-length, blocks-length, cases-length, edition-length, piece, file-joined, file-length, file-start, chart-refused, too-few, written}
 use Rattle.writer.proofs.writing.write_on.Statement.{statement}
 use Rattle.writer.proofs.writing.write_on.Tie as tie
 
 abbrev chartAt : tie.Start → Chart
 chartAt s =
     let a = s .args in
-    chartOf (a .steps) (a .actions) (a .transitions) (a .blocks) (a .cases) (now (a .initial)) (now (a .output)) (now (a .value)) (now (a .sources)) (now (a .targets)) (now (a .on)) (now (a .off)) (now (a .wait)) (now (a .blockstep)) (now (a .blockaction)) (now (a .qualifier)) (now (a .duration)) (now (a .casestep)) (now (a .signal)) (now (a .expected))
+    chartOf (a .steps) (a .actions) (a .transitions) (a .blocks) (a .cases) (now (a .initial)) (now (a .output)) (now (a .value)) (now (a .sources)) (now (a .targets)) (now (a .on)) (now (a .off)) (now (a .wait)) (now (a .blockstep)) (now (a .blockaction)) (now (a .qualifier)) (now (a .duration)) (now (a .casestep)) (now (a .signal)) (now (a .expected)) (a .edition)
 
 -- what passed, seen from a later place
 abbrev called : tie.After-held-code → tie.Start
@@ -47,7 +47,7 @@ enough c = omega (arith, file-length (chart c), c .before .file-length .ensures,
 
 -- so many pieces are written
 abbrev Wrote : tie.Else2 → ℕ → List ℕ → ℕ → Type 0
-Wrote c k l end = Passed (piece (chart c)) (lent c) 0 6 l end k
+Wrote c k l end = Passed (piece (chart c)) (lent c) 0 7 l end k
 
 abbrev at-steps : tie.After-put-steps → tie.Else2
 at-steps c = c .before .before
@@ -79,11 +79,17 @@ at-cases c = at-blocks (c .before .before .before .before)
 wrote-cases : (c : tie.After-put-cases) → Wrote (at-cases c) 5 (c .put-cases .last .0) (c .put-cases .result)
 wrote-cases c = passed-turn (wrote-blocks (c .before .before .before .before)) (omega arith) (c .put-cases .ensures)
 
-abbrev at-end : tie.After-put-end → tie.Else2
-at-end c = at-cases (c .before .before .before .before)
+abbrev at-edition : tie.After-put-edition → tie.Else2
+at-edition c = at-cases (c .before .before .before .before)
 
-wrote-end : (c : tie.After-put-end) → Wrote (at-end c) 6 (c .put-end .last .0) (c .put-end .result)
-wrote-end c = passed-turn (wrote-cases (c .before .before .before .before)) (omega arith) (c .put-end .ensures)
+wrote-edition : (c : tie.After-put-edition) → Wrote (at-edition c) 6 (c .put-edition .last .0) (c .put-edition .result)
+wrote-edition c = passed-turn (wrote-cases (c .before .before .before .before)) (omega arith) (c .put-edition .ensures)
+
+abbrev at-end : tie.After-put-end → tie.Else2
+at-end c = at-edition (c .before .before .before .before)
+
+wrote-end : (c : tie.After-put-end) → Wrote (at-end c) 7 (c .put-end .last .0) (c .put-end .result)
+wrote-end c = passed-turn (wrote-edition (c .before .before .before .before)) (omega arith) (c .put-end .ensures)
 
 held-code-requires : tie.Need-held-code-requires
 held-code-requires c κs = search needs
@@ -98,8 +104,9 @@ returns c =
 
 file-length-requires : tie.Need-file-length-requires
 file-length-requires c κs =
-    let l = chart-sound c .limits in
-    (l .steps, l .actions, l .transitions, l .blocks, l .cases)
+    let s = chart-sound c in
+    let l = s .limits in
+    (l .steps, l .actions, l .transitions, l .blocks, l .cases, s .edition)
 
 refused-requires-2 : tie.Need-refused-requires-2
 refused-requires-2 c κs = search needs
@@ -140,8 +147,14 @@ put-cases-requires c κs =
     let s = at-blocks b in
     (chart-sound (held s) .limits .cases, passed-room (wrote-blocks b) (omega arith) (cases-length (chart s)))
 
+put-edition-requires : tie.Need-put-edition-requires
+put-edition-requires c κs =
+    let b = c .before .before .before in
+    let s = at-cases b in
+    (chart-sound (held s) .edition, passed-room (wrote-cases b) (omega arith) (edition-length (chart s)))
+
 put-end-requires : tie.Need-put-end-requires
-put-end-requires c κs = passed-room (wrote-cases (c .before .before .before)) (omega arith) refl
+put-end-requires c κs = passed-room (wrote-edition (c .before .before .before)) (omega arith) refl
 
 same-length : tie.Need-same-length
 same-length c = passed-kept (wrote-end (c .before .before))
@@ -167,6 +180,7 @@ write-on-spec =
     put-transitions-requires
     put-blocks-requires
     put-cases-requires
+    put-edition-requires
     put-end-requires
     same-length
     returns-3)

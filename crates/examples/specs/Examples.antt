@@ -11,9 +11,9 @@ use lib.IntN.{pos}
 use lib.ListN.{getD, replicate}
 use Rattle.sets.specs.Loops.{all, some, summed, firstCode, tableFrom, turns}
 use Rattle.sets.specs.Sets.{has, collect}
-use Rattle.fields.specs.Fields.{L, D, SD, SL, transitionCode}
-use Rattle.chart.specs.Chart.{noChart, withStep, withAction, withTransition, withBlock}
-use Rattle.chart.specs.Held.{stepsCode, actionsCode, transitionsCode, blocksCode, casesCode, someInitial, timedFor, timedTwice, heldCode}
+use Rattle.fields.specs.Fields.{L, D, SD, SL, P1, P0, transitionCode}
+use Rattle.chart.specs.Chart.{emptyChart, noChart, withStep, withAction, withTransition, withBlock}
+use Rattle.chart.specs.Held.{stepsCode, actionsCode, transitionsCode, blocksCode, casesCode, someInitial, timedFor, timedTwice, heldCode, chartCode}
 use Rattle.chart.specs.Initial.{initialSet}
 use Rattle.chart.specs.declared.chart.Chart.{Chart}
 use Rattle.reader.specs.Framing.{recordNumber}
@@ -22,19 +22,22 @@ use Rattle.reader.specs.Reading.{readFrom, readChart}
 use Rattle.reader.proofs.reading.Examples.{chartA}
 use Rattle.choice.specs.Choice.{reason, chosen, reasonsOf}
 use Rattle.acting.specs.Acting.{request, ripens, asked, acted}
+use Rattle.acting.specs.declared.Steps.{Steps}
+use Rattle.run.specs.Run.{counter}
 use Rattle.run.specs.declared.run.Run.{Run}
 use Rattle.passes.specs.Time.{elapsed}
-use Rattle.passes.specs.Moving.{marksOf}
+use Rattle.passes.specs.Choosing.{stepsOf}
+use Rattle.passes.specs.Moving.{signalsOf, marksOf}
 use Rattle.passes.specs.Outputs.{first, outputsOf}
-use Rattle.cycle.specs.Cycling.{startOf, cycleOf, outputsAfter}
+use Rattle.cycle.specs.Cycling.{startOf, countsAt, choiceOf, cycleOf, outputsAfter}
 use Rattle.cycle.specs.declared.cycling.Cycled.{Cycled}
 use Rattle.cycle.specs.Calling.{singly}
 use Rattle.key.specs.Turning.{marked, turnOf}
 use Rattle.shift.specs.Shifting.{Done, shiftOf}
 use Rattle.tally.specs.Tallying.{tallyOf}
 use Rattle.tally.specs.Weighing.{weightIn, unbalanced, weighOf}
-use Rattle.claims.specs.Runs.{Call, after, begun}
+use Rattle.claims.specs.Runs.{Call, cycle, after, listed, history, howMany, arrivals, departures, begun}
 use Rattle.claims.specs.Weights.{weighed-apart}
 
 -- a start and a cycle with 32 outputs lent
 abbrev began : Chart → ℕ → Run
@@ -55,7 +58,7 @@ a2 = then a (a1 .run) 1509 2
 
 -- one initial step
 abbrev alone : Chart
-alone = withStep noChart 1
+alone = withStep (emptyChart 1) 1
 
 -- one initial step with a block of one action
 abbrev timed : ℕ → ℕ → Chart
@@ -63,14 +66,14 @@ timed qualifier duration = withBlock (withAction alone 0 (pos 1)) 0 0 qualifier 
 
 -- steps 0 and 1 initial, 0→2 and 1→2, no signal asked
 abbrev rivals : Chart
-rivals = withTransition (withTransition (withStep (withStep (withStep noChart 1) 1) 0) 1 4 0 0 0) 2 4 0 0 0
+rivals = withTransition (withTransition (withStep (withStep (withStep (emptyChart 1) 1) 1) 0) 1 4 0 0 0) 2 4 0 0 0
 
 abbrev once : Cycled
 once = then rivals (began rivals 0) 10 0
 
 -- fork 0→{1, 2}, step 0 initial
 abbrev pub fork : Chart
-fork = withTransition (withStep (withStep (withStep noChart 1) 0) 0) 1 6 0 0 0
+fork = withTransition (withStep (withStep (withStep (emptyChart 1) 1) 0) 0) 1 6 0 0 0
 
 pub record Starred : Type 0 where
   -- "Chart A, last clock 1509: no transition, activity 3, case not run."
@@ -134,11 +137,11 @@ reasonsFrom l more = l ++ replicate more 0
 
 -- step 0 initial, 0→1 and 0→2, the second by input 0
 abbrev branch : Chart
-branch = withTransition (withTransition (withStep (withStep (withStep noChart 1) 0) 0) 1 2 0 0 0) 1 4 1 0 0
+branch = withTransition (withTransition (withStep (withStep (withStep (emptyChart 1) 1) 0) 0) 1 2 0 0 0) 1 4 1 0 0
 
 -- the same with input 1 asked of the first
 abbrev asking : Chart
-asking = withTransition (withTransition (withStep (withStep (withStep noChart 1) 0) 0) 1 2 2 0 0) 1 4 1 0 0
+asking = withTransition (withTransition (withStep (withStep (withStep (emptyChart 1) 1) 0) 0) 1 2 2 0 0) 1 4 1 0 0
 
 pub record Waiting : Type 0 where
   pub wait : a2 .reasons ≡ reasonsFrom (1 ∷ 4 ∷ []) 62
@@ -201,11 +204,98 @@ holding = record {
   stored-limited = refl;
 }
 
+-- document 02, request (viii): steps 0 and 1 initial, 0→1 and 1→0, no signal asked; action 0 pulses where step 0 is entered, action 1 where it is left
+abbrev swap : ℕ → Chart
+swap edition =
+    withBlock (withBlock (withTransition (withTransition
+    (withAction (withAction (withStep (withStep (emptyChart edition) 1) 1) 0 (pos 1)) 1 (pos 1)) 1 2 0 0 0) 2 1 0 0 0) 0 0 P1 0) 0 1 P0 0
+
+abbrev swapped : ℕ → Cycled
+swapped edition = then (swap edition) (began (swap edition) 0) 10 0
+
+-- the same with 0→1 alone: its target is active and not left
+abbrev pushed : Chart
+pushed = withTransition (withStep (withStep (emptyChart 2) 1) 1) 1 2 0 0 0
+
+abbrev push : Cycled
+push = then pushed (began pushed 0) 10 0
+
+abbrev pushCalls : List Call
+pushCalls = cycle (record { clock = 10; inputs = 0; lent = 32 }) ∷ []
+
+-- the steps that a cycle leaves, enters and keeps
+abbrev steps : Chart → ℕ → Steps
+steps c clock = let r = began c 0 in stepsOf (r .active) (choiceOf c r (countsAt r clock) (signalsOf 0 (r .activity)))
+
+-- a file of one initial step, the records x behind it, and the end
+abbrev file : List ℕ → List ℕ
+file x = (1 ∷ 0 ∷ 1 ∷ 0 ∷ 1 ∷ []) ++ x ++ (0 ∷ 0 ∷ 0 ∷ 0 ∷ [])
+
+pub record Editions : Type 0 where
+  -- edition 1 takes none
+  pub first-none : swapped 1 .taken ≡ 0
+  pub first-why : swapped 1 .reasons ≡ reasonsFrom (5 ∷ 5 ∷ []) 62
+  pub first-steps : steps (swap 1) 10 ≡ record { active = 3; entered = 0; left = 0; kept = 3 }
+  -- edition 2 takes both, both steps stay active, both are left and entered, and both counters are 0
+  pub second-both : swapped 2 .taken ≡ 3
+  pub second-why : swapped 2 .reasons ≡ reasonsFrom [] 64
+  pub second-steps : steps (swap 2) 10 ≡ record { active = 3; entered = 3; left = 3; kept = 0 }
+  pub second-active : swapped 2 .run .active ≡ 3
+  pub second-counters : (getD (swapped 2 .run .counters) 0 (counter 7) ≡ counter 0) × (getD (swapped 2 .run .counters) 1 (counter 7) ≡ counter 0)
+  pub second-pulses : swapped 2 .run .activity ≡ 3
+  -- the active target is not entered and its counter runs on; its arrivals are one more than the equation would have
+  pub pushed-taken : push .taken ≡ 1
+  pub pushed-steps : steps pushed 10 ≡ record { active = 2; entered = 0; left = 1; kept = 2 }
+  pub pushed-counter : getD (push .run .counters) 1 (counter 7) ≡ counter 10
+  pub pushed-arrivals : arrivals pushed 1 (history pushed (began pushed 0) pushCalls) ≡ 1
+  pub pushed-departures : departures pushed 1 (history pushed (began pushed 0) pushCalls) ≡ 0
+  pub pushed-active : has (after pushed (began pushed 0) pushCalls .active) 1 ≡ true
+  -- the record in a file, its byte, a second one, one before a case, and kind 7
+  pub read-second : readChart (file (1 ∷ 0 ∷ 6 ∷ 0 ∷ 2 ∷ [])) .chart .edition ≡ 2
+  pub read-first : readChart (file []) .chart .edition ≡ 1
+  pub byte-one : readChart (file (1 ∷ 0 ∷ 6 ∷ 0 ∷ 1 ∷ [])) .code ≡ 5
+  pub twice : (readChart (file (1 ∷ 0 ∷ 6 ∷ 0 ∷ 2 ∷ 1 ∷ 0 ∷ 6 ∷ 0 ∷ 2 ∷ [])) .code ≡ 4) × (readChart (file (1 ∷ 0 ∷ 6 ∷ 0 ∷ 2 ∷ 1 ∷ 0 ∷ 6 ∷ 0 ∷ 2 ∷ [])) .place ≡ 10)
+  pub before-a-case : readChart (file (1 ∷ 0 ∷ 6 ∷ 0 ∷ 2 ∷ 3 ∷ 0 ∷ 5 ∷ 0 ∷ 0 ∷ 0 ∷ 0 ∷ [])) .code ≡ 2
+  pub kind-seven : readChart (file (1 ∷ 0 ∷ 7 ∷ 0 ∷ 2 ∷ [])) .code ≡ 2
+  -- a held chart, the all-zero one of a refused reading among them; the edition comes before "no initial step"
+  pub held-zero : chartCode noChart ≡ 5
+  pub held-three : chartCode (withStep (emptyChart 3) 1) ≡ 5
+  pub held-none : chartCode (emptyChart 2) ≡ 9
+
+pub editions : Editions
+unfolding all some summed firstCode tableFrom turns collect recordNumber transitionCode bodyAt stepsCode actionsCode transitionsCode blocksCode casesCode someInitial timedFor timedTwice heldCode readFrom reason chosen reasonsOf marksOf initialSet asked acted after history listed howMany
+editions = record {
+  first-none = refl;
+  first-why = refl;
+  first-steps = refl;
+  second-both = refl;
+  second-why = refl;
+  second-steps = refl;
+  second-active = refl;
+  second-counters = (refl, refl);
+  second-pulses = refl;
+  pushed-taken = refl;
+  pushed-steps = refl;
+  pushed-counter = refl;
+  pushed-arrivals = refl;
+  pushed-departures = refl;
+  pushed-active = refl;
+  read-second = refl;
+  read-first = refl;
+  byte-one = refl;
+  twice = (refl, refl);
+  before-a-case = refl;
+  kind-seven = refl;
+  held-zero = refl;
+  held-three = refl;
+  held-none = refl;
+}
+
 -- idle (initial), pressurising, venting, recording, recorded: docs/ASSESSOR.md weighs this chart by hand
 abbrev brake : Chart
 brake =
     withTransition (withTransition (withTransition (withTransition
-    (withStep (withStep (withStep (withStep (withStep noChart 1) 0) 0) 0) 0) 1 10 0 0 0) 2 4 0 0 0) 8 16 0 0 0) 20 1 0 0 0
+    (withStep (withStep (withStep (withStep (withStep (emptyChart 1) 1) 0) 0) 0) 0) 1 10 0 0 0) 2 4 0 0 0) 8 16 0 0 0) 20 1 0 0 0
 
 pub brake-total : weighOf brake (3 ∷ 2 ∷ 2 ∷ 1 ∷ 1 ∷ []) ≡ record { code = 0; transition = 0; total = 3 }
 unfolding all some summed firstCode collect stepsCode actionsCode transitionsCode transitionCode blocksCode casesCode someInitial timedTwice heldCode initialSet weightIn unbalanced
