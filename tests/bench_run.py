@@ -1,5 +1,5 @@
 #!/usr/bin/env python3
-"""The program bench_run, run on charts and traces and compared with what document 01 says it prints.
+"""The program bench_run, run on charts and traces and compared with what documents 01 and 02 say it prints.
 
   tests/bench_run.py                   write what `rt check` runs it on: crates/bench_run/stdin, stdout and data/chart.bin
   tests/bench_run.py --check           say whether they are what this file says
@@ -17,8 +17,11 @@ from pathlib import Path
 
 sys.dont_write_bytecode = True
 import run_cycles as model  # noqa: E402
-from read_charts import CHART_A, END, GO, L, N, ONE, ROOT, TWO, action, block, case, record, step, store, transition  # noqa: E402
-from sources import SOURCES, cycle, start  # noqa: E402
+from read_charts import (  # noqa: E402
+    CHART_A, EDITION, END, FULL as FULL_CHART, GO, L, N, ONE, P0, P1, ROOT, TWO, action, block, case, edition, record, second, step, store,
+    transition,
+)
+from sources import SOURCES, cycle, line, start, trace  # noqa: E402
 
 TRACE_A = start(1000) + cycle(1010, 1) + cycle(1510, 2)
 LINES_A = [
@@ -52,7 +55,7 @@ CASES = [
     ("a bad chart and an empty trace", b"", b"", ["refused chart 1"]),
     ("a bad chart and a bad trace", b"", b"\0", ["refused chart 1"]),
     ("1, a cut body", CHART_A[:-5], TRACE_A, ["refused chart 1"]),
-    ("2, kind 6", ONE + record(6, b"\2") + END, TRACE_A, ["refused chart 2"]),
+    ("2, kind 7", ONE + record(7, b"\2") + END, TRACE_A, ["refused chart 2"]),
     ("3, a step of two bytes", record(1, b"\1\0") + END, TRACE_A, ["refused chart 3"]),
     ("4, 65 steps", step(1) * 65 + END, TRACE_A, ["refused chart 4"]),
     ("5, output 32", ONE + action(32) + END, TRACE_A, ["refused chart 5"]),
@@ -102,6 +105,48 @@ CASES = [
     # step 0 is left with input 1 set and input 2 not: 10 cases pass, 12 fail, and 42 on step 1 do not run
     ("two digits in each count", TWO + GO + case(0, 1, 1) * 10 + case(0, 2, 1) * 12 + case(1, 0, 0) * 42 + END, start(1) + cycle(2, 2),
      [BEGUN, "1 0000000000000002 00000000 0000000000000001", "passed 10 failed 12 notrun 42"]),
+]
+
+# Document 02, request (viii). Steps 0 and 1 are active and lead into each other, on input 0 and on input 1 with a wait of 10. Actions: 0 is P0 on
+# step 0, 1 is P1 and 2 is L 100 on step 1. In edition 2 both are left and entered at 1020, and their cases marked, the second bad; at 1025 step 1 is a
+# target that stays, so that L, which began anew at 1020, ends at 1120. In edition 1 nothing is ever taken, and L ends 100 ms after the start.
+SWAP = (step(1) * 2 + action(0) * 3 + transition([0], [1], on=[0]) + transition([1], [0], on=[1], wait=10)
+        + block(0, 0, P0) + block(1, 1, P1) + block(1, 2, L, 100) + case(0, 0, 1) + case(1, 1, 0) + END)
+SWAP_TRACE = trace(1000, (1010, {}), (1020, {0, 1}), (1025, {0}), (1030, {}), (1119, {}), (1120, {}), (1121, {1}), (1122, {0, 1}))
+CASES += [
+    ("edition 2", second(SWAP), SWAP_TRACE, [
+        line(0, {0, 1}, {1, 2}), line(1, {0, 1}, {2}, why="33"), line(2, {0, 1}, {0, 1, 2}, {0, 1}), line(3, {1}, {0, 2}, {0}),
+        line(4, {1}, {2}, why="13"), line(5, {1}, {2}, why="13"), line(6, {1}, {}, why="13"), line(7, {0}, {}, {1}), line(8, {1}, {0, 1, 2}, {0}),
+        "passed 1 failed 1 notrun 0"]),
+    ("the same chart in edition 1", SWAP, SWAP_TRACE, [
+        line(0, {0, 1}, {1, 2}), line(1, {0, 1}, {2}, why="33"), line(2, {0, 1}, {2}, why="55"), line(3, {0, 1}, {2}, why="53"),
+        line(4, {0, 1}, {2}, why="33"), line(5, {0, 1}, {}, why="33"), line(6, {0, 1}, {}, why="33"), line(7, {0, 1}, {}, why="35"),
+        line(8, {0, 1}, {}, why="55"), "passed 0 failed 0 notrun 2"]),
+    ("chart A in edition 2", second(CHART_A), TRACE_A, LINES_A + ["passed 1 failed 0 notrun 0"]),
+    ("chart A in edition 2, the empty trace", second(CHART_A), b"", ["passed 0 failed 0 notrun 1"]),
+    # two into one target, which is entered once; the chart of "transitions wait" above in edition 2: its fourth transition is taken, and then the
+    # first reason of all is that step 0 is not active, but for the one from step 2
+    ("two into one target in edition 2",
+     second(step(1) * 2 + step(0) + action(0) + transition([0], [2]) + transition([1], [2]) + block(2, 0, P1) + END),
+     trace(7, (8, {}), (9, {})), [line(0, {0, 1}, {}), line(1, {2}, {0}, {0, 1}), line(2, {2}, {}, why="11"), "passed 0 failed 0 notrun 0"]),
+    ("transitions wait in edition 2",
+     second(step(1) * 2 + step(0) + transition([2], [0]) + transition([0], [2], on=[0]) + transition([0], [2], wait=10) + transition([0], [1]) + END),
+     start(7) + cycle(6) + cycle(16) + cycle(17),
+     [line(0, {0, 1}, {}), "1 refused 11", line(2, {1}, {}, {3}), line(3, {1}, {}, why="1111"), "passed 0 failed 0 notrun 0"]),
+    # "A chart then has at most 6,441 bytes": 64 transitions from step 0 to step 1, both active; the first is taken, and step 0 is active no more
+    ("a chart of 6,441 bytes", second(FULL_CHART + END), trace(7, (8, {}), (9, {})),
+     [line(0, range(64), {31}), line(1, range(1, 64), {31}, {0}), line(2, range(1, 64), {31}, why="1" * 64), "passed 0 failed 0 notrun 64"]),
+    ("the same of 6,436 bytes", FULL_CHART + END, trace(7, (8, {})),
+     [line(0, range(64), {31}), line(1, range(64), {31}, why="5" * 64), "passed 0 failed 0 notrun 64"]),
+    ("10, a chart of 6,441 bytes and one more", second(FULL_CHART + END) + b"\0", TRACE_A, ["refused chart 10"]),
+    # the record's refusals
+    ("1, the edition's head alone", CHART_A[:-4] + EDITION[:4], TRACE_A, ["refused chart 1"]),
+    ("2, the edition before the case", CHART_A[:-11] + EDITION + CHART_A[-11:], TRACE_A, ["refused chart 2"]),
+    ("3, an edition of two bytes", ONE + record(6, b"\2\0") + END, TRACE_A, ["refused chart 3"]),
+    ("4, the edition twice", ONE + EDITION * 2 + END, TRACE_A, ["refused chart 4"]),
+    ("5, edition byte 1", ONE + edition(1) + END, TRACE_A, ["refused chart 5"]),
+    ("5, edition byte 3", second(CHART_A)[:-9] + edition(3) + END, TRACE_A, ["refused chart 5"]),
+    ("10, the edition behind the end", CHART_A + EDITION, TRACE_A, ["refused chart 10"]),
 ]
 
 

@@ -89,42 +89,45 @@ const MINUTE: i64 = 60_000;
 // "the free-running 32-bit millisecond clock"
 const TURN: i64 = 1 << 32;
 
-// The fields of a held chart, then of a held run, in the order of a request.
+// The fields of a held chart, then of a held run, in the order of a request; behind the chart's stand bytes that belong to no field (CHART_IMAGE).
 #[rustfmt::skip]
 #[derive(Clone, Copy, Debug, PartialEq)]
 enum Field {
     Steps, Actions, Transitions, Blocks, Cases, Initial, Output, Value, Sources, Targets, On, Off, Wait,
-    BlockStep, BlockAction, Qualifier, Duration, CaseStep, Signal, Expected,
+    BlockStep, BlockAction, Qualifier, Duration, CaseStep, Signal, Expected, Edition,
     Clock, Active, Activity, Stored, Latched, Counters, Timers, Good, Bad, Hold,
 }
 
 // Of each field the bytes that a number takes, and how many numbers there are.
 #[rustfmt::skip]
-const LAYOUT: [(Field, usize, usize); 30] = [
+const LAYOUT: [(Field, usize, usize); 31] = [
     (Steps, 8, 1), (Actions, 8, 1), (Transitions, 8, 1), (Blocks, 8, 1), (Cases, 8, 1),
     (Initial, 1, 64), (Output, 1, 32), (Value, 4, 32),
     (Sources, 8, 64), (Targets, 8, 64), (On, 8, 64), (Off, 8, 64), (Wait, 4, 64),
     (BlockStep, 1, 256), (BlockAction, 1, 256), (Qualifier, 1, 256), (Duration, 4, 256),
-    (CaseStep, 1, 64), (Signal, 1, 64), (Expected, 1, 64),
+    (CaseStep, 1, 64), (Signal, 1, 64), (Expected, 1, 64), (Edition, 1, 1),
     (Clock, 4, 1), (Active, 8, 1), (Activity, 8, 1), (Stored, 8, 1), (Latched, 8, 1),
     (Counters, 4, 64), (Timers, 4, 32), (Good, 8, 1), (Bad, 8, 1), (Hold, 1, 1),
 ];
 // the chart's fields end here, and the run's begin
 const RUN: usize = Clock as usize;
+// a chart's image takes so many bytes, the last seven of them 0
+const CHART_IMAGE: usize = 4560;
 
-// A kind of record: the field with its count, the most there may be, and the fields of its body.
+// A kind of record: the field with its count, but for the edition, which has none; the most there may be, and the fields of its body.
 struct Kind {
-    count: Field,
+    count: Option<Field>,
     limit: usize,
     fields: &'static [Field],
 }
 
-const KINDS: [Kind; 5] = [
-    Kind { count: Steps, limit: 64, fields: &[Initial] },
-    Kind { count: Actions, limit: 32, fields: &[Output, Value] },
-    Kind { count: Transitions, limit: 64, fields: &[Sources, Targets, On, Off, Wait] },
-    Kind { count: Blocks, limit: 256, fields: &[BlockStep, BlockAction, Qualifier, Duration] },
-    Kind { count: Cases, limit: 64, fields: &[CaseStep, Signal, Expected] },
+const KINDS: [Kind; 6] = [
+    Kind { count: Some(Steps), limit: 64, fields: &[Initial] },
+    Kind { count: Some(Actions), limit: 32, fields: &[Output, Value] },
+    Kind { count: Some(Transitions), limit: 64, fields: &[Sources, Targets, On, Off, Wait] },
+    Kind { count: Some(Blocks), limit: 256, fields: &[BlockStep, BlockAction, Qualifier, Duration] },
+    Kind { count: Some(Cases), limit: 64, fields: &[CaseStep, Signal, Expected] },
+    Kind { count: None, limit: 1, fields: &[Edition] },
 ];
 // places in KINDS: one less than the kind's number in a file
 const STEP: usize = 0;
@@ -132,6 +135,7 @@ const ACTION: usize = 1;
 const TRANSITION: usize = 2;
 const BLOCK: usize = 3;
 const CASE: usize = 4;
+const EDITION: usize = 5;
 
 const NAMES: [&str; 11] = ["N", "R", "S", "L", "D", "P", "SD", "DS", "SL", "P1", "P0"];
 const N: u64 = 0;
@@ -181,15 +185,15 @@ fn record(kind: u64, body: impl IntoIterator<Item = (u64, usize)>) -> Vec<u8> {
 
 // The fields of a body in their order, and zeros behind them; a value by its 32 bits.
 type Record = [u64; 5];
-// A chart's records by kind.
-type Chart = [Vec<Record>; 5];
+// A chart's records by kind; that of the edition stands in charts of edition 2 alone.
+type Chart = [Vec<Record>; 6];
 
 // How many records of each kind: mostly a few, sometimes more, sometimes all that may be.
 fn sizes(rng: &Rng) -> [usize; 5] {
     let most = match rng.below(20) {
         0..=12 => [5, 5, 8, 9, 6],
         13..=17 => [20, 12, 30, 60, 30],
-        _ => return KINDS.map(|kind| kind.limit - usize::from(rng.chance(20))),
+        _ => return [STEP, ACTION, TRANSITION, BLOCK, CASE].map(|kind| KINDS[kind].limit - usize::from(rng.chance(20))),
     };
     let mut many = most.map(|limit| rng.below(limit + 1));
     many[STEP] = 1 + rng.below(most[STEP]);
@@ -248,6 +252,7 @@ fn random_chart(rng: &Rng) -> Chart {
         (0..if steps > 1 { transitions } else { 0 }).map(|_| transition(rng, steps, actions, &due)).collect(),
         blocks(rng, many, steps, actions, &due),
         (0..cases).map(|_| [rng.below(steps) as u64, signal(rng, actions), rng.any() % 2, 0, 0]).collect(),
+        (0..rng.below(2)).map(|_| [2, 0, 0, 0, 0]).collect(),
     ]
 }
 
@@ -356,7 +361,7 @@ fn boundary(rng: &Rng, width: usize, old: u64, near: &[u64]) -> u64 {
 
 // A kind of which the chart has records.
 fn some_kind(rng: &Rng, chart: &Chart) -> usize {
-    rng.pick(&(STEP..=CASE).filter(|kind| !chart[*kind].is_empty()).collect::<Vec<usize>>())
+    rng.pick(&(STEP..=EDITION).filter(|kind| !chart[*kind].is_empty()).collect::<Vec<usize>>())
 }
 
 // One field of one record at or near a limit; also a step that is source and target, a signal in both sets.
@@ -387,7 +392,7 @@ fn too_many(rng: &Rng, chart: &mut Chart) {
 fn no_initial(rng: &Rng, chart: &mut Chart) {
     chart[STEP] = vec![[0; 5]; rng.below(chart[STEP].len() + 1)];
     if rng.chance(50) {
-        chart[TRANSITION..].iter_mut().for_each(Vec::clear);
+        chart[TRANSITION..EDITION].iter_mut().for_each(Vec::clear);
     }
 }
 
@@ -414,7 +419,7 @@ fn moved_records(rng: &Rng, mut parts: Vec<Vec<u8>>) -> Vec<u8> {
         3 => drop(parts.remove(i)),
         _ => {
             let place = rng.pick(&[0, 2]);
-            let other = boundary(rng, 2, number_at(&part, place, 2), &[5, 16, 17, 256]);
+            let other = boundary(rng, 2, number_at(&part, place, 2), &[6, 16, 17, 256]);
             parts[i][place..place + 2].copy_from_slice(&other.to_le_bytes()[..2]);
         }
     }
@@ -446,12 +451,31 @@ fn damaged(rng: &Rng, parts: Vec<Vec<u8>>) -> Vec<u8> {
     }
 }
 
+// An edition record, mostly a right one, put anywhere or where it belongs, with another byte, of another length, of another kind or cut.
+fn faulty_edition(rng: &Rng, mut parts: Vec<Vec<u8>>) -> Vec<u8> {
+    let (anywhere, end) = (rng.below(parts.len() + 1), parts.len() - 1);
+    let byte = rng.pick(&[0, 1, 3, 255, rng.any() % 256]);
+    match rng.below(6) {
+        0 => parts.insert(anywhere, record(6, [(2, 1)])),
+        1 => parts.splice(end..end, (0..=rng.below(2)).map(|_| record(6, [(2, 1)]))).for_each(drop),
+        2 => parts.insert(end, record(6, [(byte, 1)])),
+        3 => parts.insert(end, record(6, (0..rng.pick(&[0, 2, 3, 36])).map(|_| (2, 1)))),
+        4 => parts.insert(end, record(rng.pick(&[7, 8, 262, 1536, 65_535]), [(2, 1)])),
+        _ => {
+            parts.truncate(end);
+            parts.push(record(6, [(2, 1)])[..rng.below(6)].to_vec());
+        }
+    }
+    parts.concat()
+}
+
 fn faulty_file(rng: &Rng, mut chart: Chart) -> Vec<u8> {
-    match rng.below(12) {
+    match rng.below(14) {
         0..=5 => return damaged(rng, records(&chart)),
-        6..=8 => alter_field(rng, &mut chart),
-        9 => too_many(rng, &mut chart),
-        10 => no_initial(rng, &mut chart),
+        6..=7 => return faulty_edition(rng, records(&chart)),
+        8..=10 => alter_field(rng, &mut chart),
+        11 => too_many(rng, &mut chart),
+        12 => no_initial(rng, &mut chart),
         _ => timed_twice(rng, &mut chart),
     }
     file_of(&chart)
@@ -466,8 +490,8 @@ fn faulty_file(rng: &Rng, mut chart: Chart) -> Vec<u8> {
 struct Held(Vec<u64>);
 
 // Where each field begins in it, and where the last one ends.
-const PLACES: [usize; 31] = {
-    let (mut places, mut k) = ([0; 31], 0);
+const PLACES: [usize; 32] = {
+    let (mut places, mut k) = ([0; 32], 0);
     while k < LAYOUT.len() {
         places[k + 1] = places[k] + LAYOUT[k].2;
         k += 1;
@@ -493,15 +517,16 @@ impl Held {
     // The chart of a valid file, and a run of zeros.
     fn of(file: &[u8]) -> Held {
         let (mut held, mut place) = (Held(vec![0; PLACES[LAYOUT.len()]]), 0);
+        held[Edition][0] = 1; // "absent means edition 1"
         while number_at(file, place + 2, 2) != 0 {
             let kind = &KINDS[number_at(file, place + 2, 2) as usize - 1];
-            let k = held.count(kind.count);
+            let k = kind.count.map_or(0, |count| held.count(count));
             place += 4;
             for field in kind.fields {
                 held[*field][k] = number_at(file, place, width_of(*field));
                 place += width_of(*field);
             }
-            held[kind.count][0] += 1;
+            kind.count.into_iter().for_each(|count| held[count][0] += 1);
         }
         held
     }
@@ -518,8 +543,18 @@ impl Held {
         self.0[..PLACES[Hold as usize]] == other.0[..PLACES[Hold as usize]]
     }
 
+    // Whether they have the same chart but for the edition, which is its last field, and the other's is one that there is.
+    fn differs_by_edition(&self, other: &Held) -> bool {
+        let same = self.0[..PLACES[Edition as usize]] == other.0[..PLACES[Edition as usize]];
+        same && ![1, 2].contains(&self[Edition][0]) && [1, 2].contains(&other[Edition][0])
+    }
+
     fn is_held(&self) -> bool {
         self[Hold][0] == 1
+    }
+
+    fn is_second(&self) -> bool {
+        self[Edition][0] == 2
     }
 
     fn count(&self, field: Field) -> usize {
@@ -527,12 +562,15 @@ impl Held {
     }
 
     fn counts(&self) -> Vec<u64> {
-        KINDS.iter().map(|kind| self[kind.count][0]).collect()
+        KINDS.iter().filter_map(|kind| kind.count).map(|count| self[count][0]).collect()
     }
 
     fn bytes(&self) -> Vec<u8> {
         let mut bytes = Vec::with_capacity(5500);
         for (field, width, _) in LAYOUT {
+            if field as usize == RUN {
+                bytes.resize(CHART_IMAGE, 0);
+            }
             self[field].iter().for_each(|number| put(&mut bytes, *number, width));
         }
         bytes
@@ -556,7 +594,8 @@ fn some_mark(rng: &Rng) -> u64 {
     }
 }
 
-// A run of the chart, but now and then for its mark; mostly one in which the wanted transition has its sources active and its targets not.
+// A run of the chart, but now and then for its mark; mostly one in which the wanted transition has its sources active and its targets not, or in
+// edition 2 as they come.
 fn put_run(rng: &Rng, held: &mut Held, chart: &Chart, elapsed: i64, wanted: Option<Record>) {
     held[Hold][0] = some_mark(rng);
     // the counters of a held run stand still: some are at their time, and some would be if they did not
@@ -565,7 +604,10 @@ fn put_run(rng: &Rng, held: &mut Held, chart: &Chart, elapsed: i64, wanted: Opti
         held[field][0] = chosen(rng, numbers(chart[kind].len()), 64);
     }
     if let Some([sources, targets, ..]) = wanted.filter(|_| rng.chance(70)) {
-        held[Active][0] = (held[Active][0] | sources) & !targets;
+        held[Active][0] |= sources;
+        if !held.is_second() || rng.chance(40) {
+            held[Active][0] &= !targets;
+        }
     }
     for k in members(held[Active][0]) {
         let waits = chart[TRANSITION].iter().filter(|transition| has(transition[0], k as u64)).map(|transition| transition[4]);
@@ -605,6 +647,7 @@ fn limit_of(held: &Held, field: Field) -> Limit {
         Actions => Limit::Most(32),
         Blocks => Limit::Most(256),
         Initial | Expected | Hold => Limit::Most(1),
+        Edition => Limit::Most(2),
         Output => Limit::Most(31),
         Wait | Duration | Counters | Timers => Limit::Most(DAY as u64),
         BlockStep | CaseStep => Limit::Most(steps - 1),
@@ -622,7 +665,7 @@ fn limit_of(held: &Held, field: Field) -> Limit {
 // The entries of a field that count: of a table those below its count, of times those that run.
 fn entries(held: &Held, field: Field) -> Vec<usize> {
     let kind = KINDS.iter().find(|kind| kind.fields.contains(&field));
-    let counted = 0..kind.map_or(1, |kind| held.count(kind.count));
+    let counted = 0..kind.and_then(|kind| kind.count).map_or(1, |count| held.count(count));
     match field {
         Counters => members(held[Active][0]),
         Timers => members(held[Latched][0]),
@@ -652,8 +695,8 @@ fn put_at_limit(rng: &Rng, held: &mut Held) -> Option<(Field, bool)> {
 
 // Anything in some of the entries beyond the counts.
 fn put_junk(rng: &Rng, held: &mut Held) {
-    for kind in &KINDS {
-        let many = held.count(kind.count);
+    for (kind, count) in KINDS.iter().filter_map(|kind| Some((kind, kind.count?))) {
+        let many = held.count(count);
         for field in kind.fields {
             let beyond = held[*field][many..].iter_mut().filter(|_| rng.chance(20));
             beyond.for_each(|entry| *entry = rng.any() & largest(width_of(*field)));
@@ -721,19 +764,25 @@ fn shortened(mut file: Vec<u8>) -> Vec<u8> {
 }
 
 fn read_case(rng: &Rng, _: u64) -> Case {
-    let count = |reached: &mut Reached, line: &str| reached.answer(answered(line, 1)[0], "files read");
-    Case { request: shortened(faulty_file(rng, random_chart(rng))), count: Box::new(count) }
+    let file = shortened(faulty_file(rng, random_chart(rng)));
+    let read = file.clone();
+    Case { request: file, count: Box::new(move |reached, line| count_read(reached, &read, line)) }
 }
 
 fn back_case(rng: &Rng, _: u64) -> Case {
     let chart = random_chart(rng);
     let file = if rng.chance(80) { file_of(&chart) } else { shortened(faulty_file(rng, chart)) };
-    let same = format!("0 {} same", file.len());
-    let count = move |reached: &mut Reached, line: &str| reached.add(if line == same { "written back" } else { "not written back" }, 1);
+    let (same, read) = (format!("0 {} same", file.len()), file.clone());
+    let count = move |reached: &mut Reached, line: &str| {
+        reached.add(if line == same { "written back" } else { "not written back" }, 1);
+        reached.note("written back in edition 2", line == same && Held::of(&read).is_second());
+        reached.note("written back in 6,441 bytes", line == same && read.len() == 6441);
+    };
     Case { request: file, count: Box::new(count) }
 }
 
-// A call on a held chart and run, the field that was put at its limit or above it, and whether the run is one of the chart but for its mark.
+// A call on a held chart and run, the field that was put at its limit or above it, whether the run is one of the chart but for its mark, whether the
+// chart is one but for its edition, and the number of a fault that it has beside its edition.
 struct Call {
     held: Held,
     kind: u64,
@@ -741,6 +790,8 @@ struct Call {
     inputs: u64,
     limit: Option<(Field, bool)>,
     fits: bool,
+    by_edition: bool,
+    fault: Option<u64>,
 }
 
 // Any transition, or often one with several sources and a wait.
@@ -750,9 +801,14 @@ fn some_transition(rng: &Rng, chart: &Chart) -> Option<Record> {
     (!among.is_empty()).then(|| rng.pick(among))
 }
 
-// Half get a field at its limit or above it, less than a third some field or two altered.
+// An edition that there is not.
+fn no_edition(rng: &Rng) -> u64 {
+    rng.pick(&[0, 3, 255, rng.between(3, 255) as u64])
+}
+
+// Less than half get a field at its limit or above it, less than a third some field or two altered, a few another edition.
 fn alter(rng: &Rng, held: &mut Held) -> Option<(Field, bool)> {
-    match rng.below(10) {
+    match rng.below(11) {
         0..=4 => return put_at_limit(rng, held),
         5..=7 => {
             for _ in 0..=rng.below(2) {
@@ -760,28 +816,84 @@ fn alter(rng: &Rng, held: &mut Held) -> Option<(Field, bool)> {
                 alter_held(rng, held, from..to);
             }
         }
+        8 => held[Edition][0] = rng.pick(&[1, 2, no_edition(rng), no_edition(rng)]),
         _ => {}
     }
     None
 }
 
+// The chart in edition 2, with an action that has one block alone, a pulse or one that goes by the step's counter, on a source or a target of this
+// transition; and often with a transition that leads back the same way, told by the same signals, behind the same wait.
+fn make_second(rng: &Rng, chart: &mut Chart, [sources, targets, on, off, wait]: Record) {
+    let (due, actions) = (due_times(chart), chart[ACTION].len());
+    chart[EDITION] = vec![[2, 0, 0, 0, 0]];
+    if actions > 0 {
+        let (action, q) = (rng.below(actions) as u64, rng.pick(&[P, P1, P0, L, D, DS]));
+        let duration = if TIMED.contains(&q) { rng.pick(&due) } else { 0 };
+        chart[BLOCK].retain(|block| block[1] != action);
+        chart[BLOCK].truncate(KINDS[BLOCK].limit - 1);
+        chart[BLOCK].push([rng.pick(&members(sources | targets)) as u64, action, q, duration, 0]);
+    }
+    if chart[TRANSITION].len() < KINDS[TRANSITION].limit && rng.chance(50) {
+        chart[TRANSITION].insert(rng.below(chart[TRANSITION].len() + 1), [targets, sources, on, off, wait]);
+    }
+}
+
+// The run so that nothing but another transition or the key speaks against this one in edition 2, nor against one that leads back; its inputs are left
+// to the call.
+fn ripen(rng: &Rng, held: &mut Held, [sources, targets, on, off, wait]: Record) {
+    held[Hold][0] = u64::from(rng.chance(20));
+    held[Active][0] |= sources | targets;
+    held[Activity][0] = (held[Activity][0] | on >> 32) & !(off >> 32);
+    held[Stored][0] &= rng.pick(&[0, 0, u64::MAX]);
+    for k in members(sources | targets) {
+        held[Counters][k] = held[Counters][k].max(rng.pick(&[wait, DAY as u64]));
+    }
+}
+
+// An edition that there is not, and beside it another fault of the chart; its number, if the chart has what it takes.
+fn put_two_faults(rng: &Rng, held: &mut Held) -> Option<u64> {
+    let (transitions, blocks, fault) = (held.count(Transitions), held.count(Blocks), rng.pick(&[4, 6, 7, 8, 9]));
+    held[Edition][0] = no_edition(rng);
+    match fault {
+        4 => held[Steps][0] = 65,
+        6 if transitions > 0 => held[Sources][transitions - 1] = 0,
+        7 if transitions > 0 => [On, Off].iter().for_each(|field| held[*field][0] |= 1),
+        8 if blocks > 1 => {
+            held[BlockAction][1] = held[BlockAction][0];
+            held[Qualifier][..2].fill(L);
+        }
+        9 => held[Initial].fill(0),
+        _ => return None,
+    }
+    Some(fault)
+}
+
 fn held_case(rng: &Rng, _: u64) -> Case {
-    let chart = random_chart(rng);
+    let mut chart = random_chart(rng);
     let wanted = some_transition(rng, &chart);
+    let ripe = wanted.filter(|_| rng.chance(15));
+    ripe.into_iter().for_each(|transition| make_second(rng, &mut chart, transition));
     let elapsed = rng.pick(&[0, 1, MINUTE, rng.between(0, 50), rng.between(0, 2000), rng.between(0, MINUTE)]);
     let mut held = Held::of(&file_of(&chart));
     put_run(rng, &mut held, &chart, elapsed, wanted);
+    ripe.into_iter().for_each(|transition| ripen(rng, &mut held, transition));
     let made = held.clone();
-    let gap = if rng.chance(88) { elapsed } else { refused_gap(rng) };
-    let (clock, inputs) = (reading(held[Clock][0] as i64 + gap), inputs_for(rng, &chart, wanted));
-    let kind = rng.pick(&[START, CYCLE, CYCLE, CYCLE, CYCLE, CYCLE, TALLY, WEIGHING, HOLD, RELEASE]);
-    let limit = alter(rng, &mut held);
-    let fits = held.equals_but_mark(&made);
+    let gap = if ripe.is_some() || rng.chance(88) { elapsed } else { refused_gap(rng) };
+    let told = ripe.map(|[_, _, on, off, _]| (rng.any() | on) & !off & numbers(32));
+    let (clock, inputs) = (reading(held[Clock][0] as i64 + gap), told.unwrap_or_else(|| inputs_for(rng, &chart, wanted)));
+    let any_call = rng.pick(&[START, CYCLE, CYCLE, CYCLE, CYCLE, CYCLE, TALLY, WEIGHING, HOLD, RELEASE]);
+    let (kind, limit, fault) = match rng.below(20) {
+        _ if ripe.is_some() => (CYCLE, None, None),
+        0 => (any_call, None, put_two_faults(rng, &mut held)),
+        _ => (any_call, alter(rng, &mut held), None),
+    };
+    let (fits, by_edition) = (held.equals_but_mark(&made), held.differs_by_edition(&made));
     let lent = if rng.chance(60) { 32 } else { rng.pick(&[0, 31, 33, 64, 255, rng.any() % 256]) };
     let weights = if kind == WEIGHING { random_weights(rng, &chart) } else { Vec::new() };
     let mut bytes = request(&held, kind, clock, inputs, lent, weights.len());
     weights.iter().for_each(|weight| put(&mut bytes, *weight, 2));
-    let call = Call { held, kind, clock, inputs, limit, fits };
+    let call = Call { held, kind, clock, inputs, limit, fits, by_edition, fault };
     Case { request: bytes, count: Box::new(move |reached, line| count_held(reached, &call, line)) }
 }
 
@@ -790,13 +902,22 @@ fn writing_case(rng: &Rng, _: u64) -> Case {
     let file = file_of(&random_chart(rng));
     let mut held = Held::of(&file);
     put_junk(rng, &mut held);
-    if rng.chance(15) {
-        alter_held(rng, &mut held, 0..RUN);
+    let made = held.clone();
+    match rng.below(20) {
+        0..=2 => alter_held(rng, &mut held, 0..Edition as usize),
+        3 => held[Edition][0] = no_edition(rng),
+        _ => {}
     }
-    let size = file.len() as u64;
+    let (size, second, by_edition) = (file.len() as u64, held.is_second(), held.differs_by_edition(&made));
     let (more, fewer) = (size + 2 + rng.any() % 300, rng.any() % size);
-    let lent = rng.pick(&[size, size, size, size - 1, size + 1, more, fewer, 0, 6436]);
-    let count = move |reached: &mut Reached, line: &str| count_written(reached, size, lent, line);
+    let lent = rng.pick(&[size, size, size, size - 1, size + 1, more, fewer, 0, 6441]);
+    let count = move |reached: &mut Reached, line: &str| {
+        count_written(reached, size, lent, "", line);
+        if second {
+            count_written(reached, size, lent, IN_2, line);
+        }
+        count_edition(reached, "writing", second, by_edition, line);
+    };
     Case { request: request(&held, WRITING, lent, 0, 32, 0), count: Box::new(count) }
 }
 
@@ -824,14 +945,20 @@ fn shift_case(rng: &Rng, number: u64) -> Case {
     let few = rng.pick(&[0, 1, 2, rng.between(3, 12) as usize, rng.between(13, 60) as usize]);
     let (many, right) = [(4096, true), (4097, true), (4096, true)].get(number as usize % 2000).copied().unwrap_or((few, false));
     let clocks = shift_clocks(rng, held[Clock][0], many, &due_times(&chart));
-    if !right && rng.chance(15) {
-        let (from, to) = rng.pick(&[(0, RUN), (RUN, LAYOUT.len())]);
-        alter_held(rng, &mut held, from..to);
+    match rng.below(20) {
+        0..=2 if !right => {
+            let (from, to) = rng.pick(&[(0, RUN), (RUN, LAYOUT.len())]);
+            alter_held(rng, &mut held, from..to);
+        }
+        3 if !right => held[Edition][0] = no_edition(rng),
+        _ => {}
     }
     if right {
-        held[Hold][0] = number / 2 % 2; // of the two that are as long as may be, the second is held
+        // of the two that are as long as may be, the second is held, and they are of both editions; in the next 2,000 the other way round
+        held[Hold][0] = number / 2 % 2;
+        held[Edition][0] = 1 + (number / 2 + number / 2000) % 2;
     }
-    let fits = held.equals_but_mark(&made);
+    let (fits, by_edition) = (held.equals_but_mark(&made), held.differs_by_edition(&made));
     let uneven = || if right || rng.chance(90) { many } else { rng.pick(&[many + 1, many.max(1) - 1]) };
     let (inputs, words) = (uneven(), uneven());
     let lent = if right || rng.chance(80) { 32 } else { rng.pick(&[31, 0, 33, 255]) };
@@ -840,8 +967,13 @@ fn shift_case(rng: &Rng, number: u64) -> Case {
     (0..inputs).for_each(|_| put(&mut bytes, inputs_for(rng, &chart, None), 4));
     let (mark, length) = (held[Hold][0], many as u64);
     let count = move |reached: &mut Reached, line: &str| {
-        count_shift(reached, length, line);
+        count_shift(reached, length, "", line);
         count_held_shift(reached, length, mark, fits, line);
+        count_edition(reached, "shift", held.is_second(), by_edition, line);
+        if held.is_second() {
+            count_shift(reached, length, IN_2, line);
+            count_second_shift(reached, &held, line);
+        }
     };
     Case { request: bytes, count: Box::new(count) }
 }
@@ -927,6 +1059,7 @@ fn needed() -> Vec<String> {
     names.extend([1, 3, 4, 5].map(|reason| format!("printed reason {reason}")));
     names.extend(NEEDED.iter().map(|name| name.to_string()));
     names.extend(needed_of_hold());
+    names.extend(needed_of_editions());
     names
 }
 
@@ -956,6 +1089,62 @@ const NEEDED_OF_HOLD: [&str; 29] = [
     "clock turned under hold",
 ];
 
+// behind the name of what is counted in edition 2 by itself
+const IN_2: &str = " in edition 2";
+
+// Edition 2 by itself: what was said of both, where it may differ, and what there is in it alone. An earlier transition claims no step there.
+fn needed_of_editions() -> Vec<String> {
+    let mut names = Vec::new();
+    for call in CALLS {
+        names.extend([format!("{call} refused by the edition alone"), format!("{call} accepted{IN_2}")]);
+    }
+    for reason in 1..=4 {
+        names.push(format!("reason {reason} alone{IN_2}"));
+        names.extend((reason + 1..=4).map(|later| format!("reason {reason} before {later}{IN_2}")));
+    }
+    names.extend([1, 3, 4].map(|reason| format!("reason 7 before {reason}{IN_2}")));
+    names.extend([1, 3, 4].map(|reason| format!("printed reason {reason}{IN_2}")));
+    names.extend([4, 6, 7].map(|early| format!("{early} before the edition's 5")));
+    names.extend([8, 9].map(|late| format!("the edition's 5 before {late}")));
+    names.extend([3, 4, 5].map(|code| format!("refused {code} by the edition record")));
+    names.extend([8, 9, 10].map(|code| format!("refused {code} behind the edition record")));
+    for q in [P, P1, P0] {
+        names.push(format!("{} active where left and entered", NAMES[q as usize]));
+        names.push(format!("{} not active at a target that stays", NAMES[q as usize]));
+    }
+    names.extend([L, D, DS].map(|q| format!("{} anew where left and entered", NAMES[q as usize])));
+    names.extend([L, D, DS].map(|q| format!("{} goes on at a target that stays", NAMES[q as usize])));
+    names.extend(IN_BOTH.iter().map(|name| format!("{name}{IN_2}")));
+    names.extend(NEEDED_OF_EDITIONS.iter().map(|name| name.to_string()));
+    names
+}
+
+#[rustfmt::skip]
+const IN_BOTH: [&str; 16] = [
+    "files read", "written back", "written", "written into its length", "written into more", "one byte too few", "transitions taken",
+    "two taken in one call", "reason 7 alone", "cycle accepted under hold", "shift accepted under hold", "shift refused nowhere",
+    "shift refused in its middle", "shift of 1", "shift of 4096", "printed calls",
+];
+
+#[rustfmt::skip]
+const NEEDED_OF_EDITIONS: [&str; 19] = [
+    "files read in edition 1", "written back in 6,441 bytes", "written in 6,441 bytes", "edition 0 refused", "edition 3 refused",
+    "edition 255 refused", "refused 1 in the edition record", "refused 2 behind the edition record", "refused 2 by kind 7",
+    "step left and entered", "target that stays", "one target of two taken", "target of two taken that stays", "case marked where left and entered",
+    "case not marked at a target that stays", "kept from an active step by the key alone", "shift leaves and enters a step",
+    "printed step left and entered", "printed target that stays",
+];
+
+// What must not be reached: in edition 2 no target is tested; a second line has no reason that needs a transition taken, nor a key; kind 6 is neither
+// above 6 nor smaller than any kind before it.
+fn never() -> Vec<String> {
+    let mut names = vec!["refused 2 by the edition record".to_string()];
+    names.extend([5, 6].map(|reason| format!("reason {reason}{IN_2}")));
+    names.extend([5, 6].map(|reason| format!("printed reason {reason}{IN_2}")));
+    names.extend([0, 2, 6, 7].map(|reason| format!("printed reason {reason}")));
+    names
+}
+
 #[rustfmt::skip]
 const NEEDED: [&str; 32] = [
     "R resets", "P not active at leaving", "transitions taken", "forks taken", "joins taken", "two taken in one call",
@@ -975,9 +1164,48 @@ fn answered(line: &str, many: usize) -> Vec<u64> {
     line.split(' ').take(many).map(|word| word.parse().unwrap_or_else(|_| panic!("no number: {word}"))).collect()
 }
 
+// The kind of the last record in front of this place or of the end record, 0 if there is none; the records up to there are whole.
+fn kind_before(file: &[u8], place: usize) -> u64 {
+    let (mut at, mut before) = (0, 0);
+    while at < place && number_at(file, at + 2, 2) != 0 {
+        before = number_at(file, at + 2, 2);
+        at += 4 + number_at(file, at, 2) as usize;
+    }
+    before
+}
+
+// A reading by its number, and by the edition record: where it is the faulty one, stands in front of it, or of the end of a file refused behind that.
+fn count_read(reached: &mut Reached, file: &[u8], line: &str) {
+    let numbers = answered(line, 8);
+    let (code, place, edition) = (numbers[0], numbers[1] as usize, numbers[7]);
+    let kind = file.get(place..).filter(|left| left.len() >= 4).map_or(0, |left| number_at(left, 2, 2));
+    reached.answer(code, "files read");
+    match code {
+        0 => reached.add(&format!("files read in edition {edition}"), 1),
+        1 => reached.note("refused 1 in the edition record", kind == 6),
+        2 => {
+            reached.note("refused 2 behind the edition record", kind_before(file, place) == 6 && kind < 6);
+            reached.note("refused 2 by kind 7", kind == 7);
+            reached.note("refused 2 by the edition record", kind == 6);
+        }
+        3..=5 => reached.note(&format!("refused {code} by the edition record"), kind == 6),
+        8..=10 => reached.note(&format!("refused {code} behind the edition record"), kind_before(file, file.len()) == 6),
+        _ => {}
+    }
+}
+
+// What a call makes of its chart's edition: the code is the first number of each line.
+fn count_edition(reached: &mut Reached, name: &str, second: bool, by_edition: bool, line: &str) {
+    let code = answered(line, 1)[0];
+    reached.note(&format!("{name} refused by the edition alone"), code == 5 && by_edition);
+    reached.note(&format!("{name} accepted{IN_2}"), code == 0 && second);
+}
+
 fn count_moves(reached: &mut Reached, held: &Held, taken: u64) {
-    reached.add("transitions taken", u64::from(taken.count_ones()));
-    reached.note("two taken in one call", taken.count_ones() > 1);
+    for edition in ["", IN_2].into_iter().filter(|edition| edition.is_empty() || held.is_second()) {
+        reached.add(&format!("transitions taken{edition}"), u64::from(taken.count_ones()));
+        reached.note(&format!("two taken in one call{edition}"), taken.count_ones() > 1);
+    }
     for k in members(taken) {
         reached.note("forks taken", held[Targets][k].count_ones() > 1);
         reached.note("joins taken", held[Sources][k].count_ones() > 1);
@@ -1045,12 +1273,14 @@ fn growth(call: &Call) -> u64 {
     }
 }
 
-// What speaks against transition k, each reason of request (vi) by itself, whatever comes before it; the key, which comes first, left out.
+// What speaks against transition k, each reason of request (vi) by itself, whatever comes before it; the key, which comes first, left out. In
+// edition 2 no target does.
 fn against(call: &Call, taken: u64, k: usize) -> [bool; 6] {
     let (held, active) = (&call.held, call.held[Active][0]);
     let before = |field: Field| members(taken & numbers(k)).iter().fold(0, |set, earlier| set | held[field][*earlier]);
     let signals = call.inputs | held[Activity][0] << 32;
-    let (growth, sources, targets) = (growth(call), held[Sources][k], held[Targets][k]);
+    let (growth, sources) = (growth(call), held[Sources][k]);
+    let targets = if held.is_second() { 0 } else { held[Targets][k] };
     [
         sources & !active != 0,
         sources & before(Sources) != 0,
@@ -1070,11 +1300,13 @@ fn is_kept(call: &Call, taken: u64, k: usize) -> bool {
 // Of an accepted cycle: each reason where nothing else speaks against the transition, and where a later one does too; 7 is the first in their order.
 fn count_reasons(reached: &mut Reached, call: &Call, taken: u64, line: &str) {
     let reasons = line.split(' ').rev().take(64).collect::<Vec<&str>>().into_iter().rev();
+    let edition = if call.held.is_second() { IN_2 } else { "" };
     for (k, word) in reasons.enumerate().filter(|(_, word)| *word != "0") {
         let later = against(call, taken, k).into_iter().zip(1..).filter(|(so, _)| *so).map(|(_, reason)| reason.to_string());
         let later: Vec<String> = later.filter(|reason| word == "7" || reason.as_str() > word).collect();
-        reached.note(&format!("reason {word} alone"), later.is_empty());
-        later.iter().for_each(|reason| reached.add(&format!("reason {word} before {reason}"), 1));
+        reached.note(&format!("reason {word}{IN_2}"), call.held.is_second());
+        reached.note(&format!("reason {word} alone{edition}"), later.is_empty());
+        later.iter().for_each(|reason| reached.add(&format!("reason {word} before {reason}{edition}"), 1));
     }
 }
 
@@ -1102,6 +1334,72 @@ fn count_call(reached: &mut Reached, call: &Call, line: &str) {
     count_actions(reached, held, (held[Active][0], held[Activity][0]), after);
     count_durations(reached, held, after.0, &numbers[10..74], &numbers[74..106]);
     count_waits(reached, call, taken);
+    if held.is_second() && call.kind == CYCLE {
+        count_second_cycle(reached, call, taken, &numbers);
+    }
+}
+
+// What the transitions taken in a cycle leave, what they lead to, and of that what more than one of them leads to.
+struct Moves {
+    left: u64,
+    targets: u64,
+    shared: u64,
+}
+
+fn moves(held: &Held, taken: u64) -> Moves {
+    let mut found = Moves { left: 0, targets: 0, shared: 0 };
+    for k in members(taken) {
+        found.left |= held[Sources][k];
+        found.shared |= found.targets & held[Targets][k];
+        found.targets |= held[Targets][k];
+    }
+    found
+}
+
+// Of a cycle in edition 2 that is not under hold: steps that are left and entered, active behind it with counter 0, and targets that were active and
+// are not left, whose counter is not 0 then.
+fn count_second_cycle(reached: &mut Reached, call: &Call, taken: u64, numbers: &[u64]) {
+    let (held, Moves { left, targets, shared }) = (&call.held, moves(&call.held, taken));
+    let (again, stays) = (left & targets, targets & held[Active][0] & !left);
+    let counter = |step: usize| numbers[10 + step];
+    let counts = |step: &usize| has(numbers[3], *step as u64) && counter(*step) > 0;
+    reached.note("step left and entered", members(again).iter().any(|step| has(numbers[3], *step as u64) && counter(*step) == 0));
+    reached.note("target that stays", members(stays).iter().any(counts));
+    reached.note("one target of two taken", shared & !held[Active][0] != 0);
+    reached.note("target of two taken that stays", members(shared & stays).iter().any(counts));
+    for k in deciding_blocks(held) {
+        let (step, active) = (held[BlockStep][k], has(numbers[4], held[BlockAction][k]));
+        count_second_block(reached, call, k, active, (has(again, step), has(stays, step)));
+    }
+    for k in 0..held.count(Cases) {
+        let (step, marked) = (held[CaseStep][k], has(numbers[7] | numbers[8], k as u64));
+        let before = has(held[Good][0] | held[Bad][0], k as u64);
+        reached.note("case marked where left and entered", has(again, step) && marked && !before);
+        reached.note("case not marked at a target that stays", has(stays, step) && !marked);
+    }
+}
+
+// Of a block that decides its action's activity: pulses, and L, D and DS where the counter that was reached before begins anew or goes on.
+fn count_second_block(reached: &mut Reached, call: &Call, k: usize, active: bool, (again, stays): (bool, bool)) {
+    let (held, q, duration) = (&call.held, call.held[Qualifier][k], call.held[Duration][k]);
+    let name = NAMES[q as usize];
+    let reaches = duration > 0 && held[Counters][held[BlockStep][k] as usize] + growth(call) >= duration;
+    if [P, P1, P0].contains(&q) {
+        reached.note(&format!("{name} active where left and entered"), again && active);
+        reached.note(&format!("{name} not active at a target that stays"), stays && !active);
+    } else if [L, D, DS].contains(&q) && reaches {
+        reached.note(&format!("{name} anew where left and entered"), again && active == (q == L));
+        reached.note(&format!("{name} goes on at a target that stays"), stays && active == (q != L));
+    }
+}
+
+// A shift of one accepted cycle in edition 2: a step that is active before it and behind it, and whose counter of more than 0 is 0, was left and
+// entered.
+fn count_second_shift(reached: &mut Reached, held: &Held, line: &str) {
+    let numbers = answered(line, 106);
+    let left_and_entered = |step: &usize| has(numbers[3], *step as u64) && held[Counters][*step] > 0 && numbers[10 + step] == 0;
+    reached.note("shift leaves and enters a step", numbers[1] == 1 && members(held[Active][0]).iter().any(left_and_entered));
+    reached.note(&format!("shift accepted under hold{IN_2}"), numbers[0] == 0 && numbers[1] > 0 && held.is_held());
 }
 
 // An accepted cycle under hold: what goes on, and what the key keeps from happening.
@@ -1173,7 +1471,9 @@ fn count_held_times(reached: &mut Reached, call: &Call) {
 fn count_held_moves(reached: &mut Reached, call: &Call, after: &After) {
     let held = &call.held;
     let Some(kept) = (0..held.count(Transitions)).find(|k| against(call, 0, *k) == [false; 6]) else { return };
-    let (left, entered) = (held[Sources][kept], held[Targets][kept]);
+    let (left, active) = (held[Sources][kept], held[Active][0]);
+    let entered = held[Targets][kept] & !(active & !left);
+    reached.note("kept from an active step by the key alone", held[Targets][kept] & active != 0);
     for k in deciding_blocks(held) {
         let (step, q) = (held[BlockStep][k], held[Qualifier][k]);
         if q == P0 && has(left, step) || (q == P || q == P1) && has(entered, step) {
@@ -1211,6 +1511,7 @@ fn count_cycle(reached: &mut Reached, call: &Call, taken: u64, line: &str) {
     count_reasons(reached, call, taken, line);
     if call.held.is_held() {
         reached.note("clock turned under hold", call.clock < last);
+        reached.note(&format!("cycle accepted under hold{IN_2}"), call.held.is_second());
         count_held_cycle(reached, call, line);
     } else {
         count_clock(reached, last, call.clock);
@@ -1223,6 +1524,15 @@ fn count_held(reached: &mut Reached, call: &Call, line: &str) {
     let code = numbers[0];
     let name = CALLS[call.kind as usize];
     reached.answer(code, &format!("{name} accepted"));
+    count_edition(reached, name, call.held.is_second(), call.by_edition, line);
+    match call.fault {
+        Some(late @ (8 | 9)) => reached.note(&format!("the edition's 5 before {late}"), code == 5),
+        Some(early) => reached.note(&format!("{early} before the edition's 5"), code == early),
+        None => {}
+    }
+    for edition in [0, 3, 255] {
+        reached.note(&format!("edition {edition} refused"), code == 5 && call.by_edition && call.held[Edition][0] == edition);
+    }
     // where the mark is none, it refuses the run whatever other field is above its limit
     if let Some((field, above)) = call.limit.filter(|(field, _)| *field == Hold || mark < 2) {
         count_limit(reached, call.kind, field, above, code);
@@ -1241,30 +1551,35 @@ fn count_held(reached: &mut Reached, call: &Call, line: &str) {
     }
 }
 
-// By the number of lent bytes, where nothing else refuses a writing.
-fn count_written(reached: &mut Reached, size: u64, lent: u64, line: &str) {
+// By the number of lent bytes, where nothing else refuses a writing; of both editions, or of edition 2 once more by itself.
+fn count_written(reached: &mut Reached, size: u64, lent: u64, edition: &str, line: &str) {
     let numbers = answered(line, 2);
     let (code, length) = (numbers[0], numbers[1]);
-    reached.answer(code, "written");
-    reached.note("one byte too few", code == 17 && lent == size - 1);
-    reached.note("written into its length", code == 0 && lent == length);
-    reached.note("written into more", code == 0 && lent > length);
+    if code == 0 || edition.is_empty() {
+        reached.answer(code, &format!("written{edition}"));
+    }
+    reached.note(&format!("one byte too few{edition}"), code == 17 && lent == size - 1);
+    reached.note(&format!("written into its length{edition}"), code == 0 && lent == length);
+    reached.note(&format!("written into more{edition}"), code == 0 && lent > length);
+    reached.note("written in 6,441 bytes", code == 0 && length == 6441);
 }
 
-// A length is counted where it was judged: 18 comes behind 15, the chart's numbers and 12.
-fn count_shift(reached: &mut Reached, length: u64, line: &str) {
+// A length is counted where it was judged: 18 comes behind 15, the chart's numbers and 12. Of both editions, or of edition 2 once more by itself.
+fn count_shift(reached: &mut Reached, length: u64, edition: &str, line: &str) {
     let numbers = answered(line, 2);
     let (code, accepted) = (numbers[0], numbers[1]);
-    reached.answer(code, "shifts accepted");
-    reached.add("cycles of shifts", accepted);
-    reached.note("shift refused nowhere", code == 0 && length > 0);
+    if edition.is_empty() {
+        reached.answer(code, "shifts accepted");
+        reached.add("cycles of shifts", accepted);
+    }
+    reached.note(&format!("shift refused nowhere{edition}"), code == 0 && length > 0);
     if code == 11 && length > 1 {
-        reached.note("shift refused at its beginning", accepted == 0);
-        reached.note("shift refused in its middle", 0 < accepted && accepted < length - 1);
-        reached.note("shift refused at its end", accepted == length - 1);
+        reached.note(&format!("shift refused at its beginning{edition}"), accepted == 0);
+        reached.note(&format!("shift refused in its middle{edition}"), 0 < accepted && accepted < length - 1);
+        reached.note(&format!("shift refused at its end{edition}"), accepted == length - 1);
     }
     if [0, 1, 4096, 4097].contains(&length) && (code == 18) == (length > 4096) && [0, 11, 18].contains(&code) {
-        reached.add(&format!("shift of {length}"), 1);
+        reached.add(&format!("shift of {length}{edition}"), 1);
     }
 }
 
@@ -1281,10 +1596,21 @@ fn count_held_shift(reached: &mut Reached, length: u64, mark: u64, fits: bool, l
     }
 }
 
-// Of a cycle that took nothing. An earlier transition that uses or claims a step is taken, so 2 and 6 stand in none.
-fn count_second(reached: &mut Reached, line: &str) {
+// Of a cycle that took nothing. An earlier transition that uses or claims a step is taken, so 2 and 6 stand in none; in edition 2 neither does 5.
+fn count_second(reached: &mut Reached, held: &Held, line: &str) {
     reached.note("empty second lines", line.is_empty());
-    line.chars().for_each(|digit| reached.add(&format!("printed reason {digit}"), 1));
+    for digit in line.chars() {
+        reached.add(&format!("printed reason {digit}"), 1);
+        reached.note(&format!("printed reason {digit}{IN_2}"), held.is_second());
+    }
+}
+
+// A printed call of edition 2, from these steps.
+fn count_second_printed(reached: &mut Reached, held: &Held, active: u64, taken: u64) {
+    let Moves { left, targets, .. } = moves(held, taken);
+    reached.add(&format!("printed calls{IN_2}"), 1);
+    reached.note("printed step left and entered", left & targets != 0);
+    reached.note("printed target that stays", targets & active & !left != 0);
 }
 
 fn count_printed(reached: &mut Reached, case: &Printing, printed: &str) {
@@ -1305,9 +1631,12 @@ fn count_printed(reached: &mut Reached, case: &Printing, printed: &str) {
             last.into_iter().for_each(|last| count_clock(reached, last, clock));
             count_moves(reached, &held, taken);
             count_actions(reached, &held, before, (active, activity));
+            if held.is_second() {
+                count_second_printed(reached, &held, before.0, taken);
+            }
             (before, last) = ((active, activity), Some(clock));
             if number > 0 && taken == 0 {
-                count_second(reached, lines.next().expect("a second line"));
+                count_second(reached, &held, lines.next().expect("a second line"));
             }
         }
         number += 1;
@@ -1573,5 +1902,9 @@ fn main() {
     let missing: Vec<String> = needed.into_iter().filter(|name| reached.of(name) == 0).collect();
     if !missing.is_empty() {
         fail(&format!("seed {} never reached: {}", asked.seed, missing.join(", ")));
+    }
+    let wrong: Vec<String> = never().into_iter().filter(|name| reached.of(name) > 0).collect();
+    if !wrong.is_empty() {
+        fail(&format!("seed {} reached what cannot be: {}", asked.seed, wrong.join(", ")));
     }
 }

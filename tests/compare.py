@@ -1,5 +1,5 @@
 #!/usr/bin/env python3
-"""The engine beside a second implementation of document 01 and of requests (i) to (iii), (vi) and (vii) (tests/second.rs), on random cases.
+"""The engine beside a second implementation of document 01 and of requests (i) to (iii) and (vi) to (viii) (tests/second.rs), on random cases.
 
   tests/compare.py [--seed N] [--cases N]
 

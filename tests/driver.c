@@ -1,6 +1,6 @@
 /* The tests' way into the library: cases from standard input go to its calls, and all that a call answers becomes a line.
 
-     driver read_charts    a file, read: number, place, counts
+     driver read_charts    a file, read: number, place, counts, edition
      driver write_back     a file, read and written back: the reading's number if refused, else the writing's, the length, whether it is the same
      driver list_records   a single file: each record, the end or the refusal, and the last answer asked for again
      driver run_cycles     a file, a start, then cycles and turns of the key: for each call its whole answer
@@ -12,6 +12,7 @@
    release, which have nothing more. There are as many cases as the input has; it may end within one, which then is left out. Numbers are
    little-endian, as on the machines that this runs on. */
 #include <stdbool.h>
+#include <stddef.h>
 #include <stdint.h>
 #include <stdio.h>
 #include <stdlib.h>
@@ -119,6 +120,7 @@ static bool read_charts(void)
 	number(chart.transitions);
 	number(chart.blocks);
 	number(chart.cases);
+	number(chart.edition);
 	end_line();
 	return true;
 }
@@ -315,7 +317,7 @@ static bool lent_cycles(void)
 
 /* Held charts and runs. All that is lent to a call has values of its own before, so that what it leaves untouched is seen. */
 
-_Static_assert(sizeof chart == 4552, "a chart's image is the struct as it lies");
+_Static_assert(sizeof chart == 4560 && offsetof(struct tw_chart, edition) == 4552, "a chart's image is the struct as it lies");
 
 static bool take_run(void)
 {

@@ -1,5 +1,5 @@
 #!/usr/bin/env python3
-"""The stored cases of `driver held_calls`: its input, and the output that document 01 asks for.
+"""The stored cases of `driver held_calls`: its input, and the output that documents 01 and 02 ask for.
 
   tests/held_calls.py           write tests/stored/held_calls.in and held_calls.out
   tests/held_calls.py --check   say whether they are what this file says
@@ -8,11 +8,11 @@ Each case is an image of a chart, an image of a run and a call, and its line. Th
 nothing here runs the engine. tests/cases.rs makes random cases of the same form.
 
 Images, the least byte of each number first: every field of the chart and of the run in full length, as the tables CHART and RUN
-have them. The call: kind (0 start, 1 cycle, 2 tally, 3 weighing, 4 writing, 5 shift, 6 hold, 7 release), clock, inputs, number of
-lent outputs, number of weights, and the weights; of a writing, the clock is the number of lent bytes; of a shift, the clock's
-halves are the numbers of clocks and of inputs, the inputs' lower half that of lent activity words, and its clocks and inputs
-follow. Before the call lent output k holds 1000 + k, lent byte k holds k % 251, and activity word k holds 2^32 + k. A line of start
-or cycle: code, transitions taken, clock, active, activity, stored, latched, good, bad, hold, 64 step counters, 32 action timers, the
+have them; the chart's is the struct as it lies, with seven bytes behind the edition that belong to no field and are 0. The call: kind
+(0 start, 1 cycle, 2 tally, 3 weighing, 4 writing, 5 shift, 6 hold, 7 release), clock, inputs, number of lent outputs, number of
+weights, and the weights; of a writing, the clock is the number of lent bytes; of a shift, the clock's halves are the numbers of
+clocks and of inputs, the inputs' lower half that of lent activity words, and its clocks and inputs follow. Before the call lent
+output k holds 1000 + k, lent byte k holds k % 251, and activity word k holds 2^32 + k. A line of start or cycle: code, transitions taken, clock, active, activity, stored, latched, good, bad, hold, 64 step counters, 32 action timers, the
 lent outputs, and of a cycle 64 reasons; of a tally: code, passed, failed, not run; of a weighing: code, transition, total; of a
 writing: code, length, the lent bytes; of a shift: code, accepted cycles, then as of a start, and the activity words; of a hold or a
 release: code, 0, then as of a start, without the outputs, which are not lent to it.
@@ -21,7 +21,9 @@ import struct
 import sys
 
 sys.dont_write_bytecode = True  # leave no folder beside read_charts.py
-from read_charts import CHART_A, D, DAY, DS, END, L, P, P0, P1, SD, SL, action, case, step, store  # noqa: E402
+from read_charts import (  # noqa: E402
+    CHART_A, D, DAY, DS, EDITION, END, FULL as FULL_CHART, L, P, P0, P1, SD, SL, action, case, second, step, store,
+)
 
 START, CYCLE, TALLY, WEIGHING, WRITING, SHIFT, HOLD, RELEASE = range(8)
 LIMITS = {"steps": 64, "actions": 32, "transitions": 64, "blocks": 256, "cases": 64}
@@ -31,7 +33,7 @@ CHART = [(count, "Q", 1) for count in LIMITS] + [
     ("initial", "B", 64), ("output", "B", 32), ("value", "i", 32),
     ("sources", "Q", 64), ("targets", "Q", 64), ("on", "Q", 64), ("off", "Q", 64), ("wait", "I", 64),
     ("blockstep", "B", 256), ("blockaction", "B", 256), ("qualifier", "B", 256), ("duration", "I", 256),
-    ("casestep", "B", 64), ("signal", "B", 64), ("expected", "B", 64),
+    ("casestep", "B", 64), ("signal", "B", 64), ("expected", "B", 64), ("edition", "B", 1), ("unused", "B", 7),
 ]
 RUN = [
     ("clock", "I", 1), ("active", "Q", 1), ("activity", "Q", 1), ("stored", "Q", 1), ("latched", "Q", 1),
@@ -57,12 +59,16 @@ def packed(layout, image):
 
 
 def chart_image(data):
-    """The image of a valid file."""
-    image, place = empty(CHART), 0
+    """The image of a valid file; without a record of kind 6 it is edition 1 (document 02, request viii)."""
+    image, place = altered(empty(CHART), {"edition": 1}), 0
     while True:
         length, kind = struct.unpack_from("<HH", data, place)
         if kind == 0:
             return image
+        if kind == 6:
+            image["edition"][0] = data[place + 4]
+            place += 4 + length
+            continue
         count, form, names = KINDS[kind]
         for name, value in zip(names, struct.unpack_from(form, data, place + 4)):
             image[name][image[count][0]] = value
@@ -407,11 +413,213 @@ shift(0, [1020, 1119, 1120], [2, 2, 2], run=D_HELD, chart={("qualifier", 1): D, 
 shift(0, [1510, 1600], [2, 0], run=altered(HELD, {"hold": 0}), found=[0, 0],
       after=altered(BACK, {"clock": 1600, ("counters", 0): 90}), driven=NONE)
 
+# Document 02, request (viii): "A held chart says 1 or 2"; 5 "for another edition byte" by every call. A refused call leaves what any refusal leaves.
+TWO = {"edition": 2}
+
+
+def by_every_call(code, chart, run=BEGUN):
+    """The chart's number from each of the eight calls, on a run of chart A at 1000 that with chart A they would accept."""
+    start(line(code, 0, STILL), chart, run)
+    refused(code, chart, run)
+    tally(f"{code} 0 0 0", chart, run)
+    weighing(f"{code} 0 0", [1, 1], chart)
+    writing(code, 160, chart=chart)
+    shift(code, [1010, 1510], [1, 2], run=run, chart=chart)
+    key(HOLD, code, run, chart)
+    key(RELEASE, code, altered(run, {"hold": 1}), chart)
+
+
+for number in (0, 3, 255):
+    by_every_call(5, {"edition": number})
+for number in (4, 6, 128, 130, 254):
+    refused(5, {"edition": number})
+# "tested in a held chart after the cases" (document 01: 4, then records by kind with 5, 6, 7), so 4, 6 and 7 come before it; a case's 5 is the same
+for number in (0, 3, 255):
+    refused(4, {"cases": 65, "edition": number})
+    refused(6, {("targets", 1): 0, "edition": number})
+    refused(7, {("off", 0): 1, "edition": number})
+    refused(5, {("casestep", 0): 2, "edition": number})
+    # .. and 9 and 8 behind it
+    refused(5, {("initial", 0): 0, "edition": number})
+    refused(5, {("qualifier", 1): L, ("qualifier", 2): SL, "edition": number})
+    refused(5, {("initial", 0): 0, ("qualifier", 1): L, ("qualifier", 2): SL, "edition": number})
+by_every_call(5, {("initial", 0): 0, ("qualifier", 1): L, ("qualifier", 2): SL, "edition": 3})
+start(line(4, 0, STILL), {"steps": 65, "edition": 0})
+weighing("6 0 0", [1, 1], {("sources", 0): 0, "edition": 3})
+writing(7, 160, chart={("off", 1): 2, "edition": 255})
+shift(6, [1010], [1], chart={("targets", 0): 3, "edition": 0})
+key(HOLD, 7, BEGUN, {("off", 0): 1, "edition": 3})
+# the others in edition 2 as in edition 1
+start(line(4, 0, STILL), {"blocks": 257} | TWO)
+refused(5, {("casestep", 0): 2} | TWO)
+tally("6 0 0 0", {("targets", 0): 3} | TWO)
+weighing("7 0 0", [1, 1], {("off", 0): 1} | TWO)
+writing(9, 160, chart={("initial", 0): 0} | TWO)
+shift(8, [1010], [1], chart={("qualifier", 1): L, ("qualifier", 2): SL} | TWO)
+key(HOLD, 9, BEGUN, {("initial", 0): 0, ("qualifier", 1): L, ("qualifier", 2): SL} | TWO)
+# an all-zero chart, as a refused reading returns it, says edition 0: 5, where one of no step that says 1 or 2 is 9
+NOTHING = dict.fromkeys(["edition", *LIMITS, ("initial", 0)] + [(name, k) for name, _, many in CHART[6:-2] for k in range(min(many, 3))], 0)
+assert altered(A, NOTHING) == empty(CHART)
+by_every_call(5, NOTHING)
+for number in (1, 2):
+    start(line(9, 0, STILL), NOTHING | {"edition": number})
+    writing(9, 160, chart=NOTHING | {"edition": number})
+# 15 comes before it, and 12, 11, 13, 17 and 18 behind it
+OTHERS = altered(BEGUN, {"active": 4, "hold": 2})
+for number in (0, 3, 255):
+    bad = {"edition": number}
+    start(line(15, 0, STILL, 31), bad, lent=31)
+    refused(15, bad, run=OTHERS, clock=999, lent=31)
+    shift(15, [1010], [], run=OTHERS, chart=bad, lent=31)
+    refused(5, bad, run=OTHERS, clock=999)
+    tally("5 0 0 0", bad, OTHERS)
+    weighing("5 0 0", [1], bad)
+    weighing("5 0 0", [1, 2], bad)
+    writing(5, 0, chart=bad)
+    shift(5, [999], [], run=OTHERS, chart=bad)
+    key(HOLD, 5, OTHERS, bad)
+    key(RELEASE, 5, OTHERS, bad)
+# entries beyond a count play no part in edition 2 either
+start(line(0, 0, BEGUN, driven=NONE), {("initial", 2): 255, ("sources", 2): 2**64 - 1, ("qualifier", 3): 11, ("casestep", 1): 2} | TWO)
+
+# Chart A in edition 2: the calls of the printed run are the same, since no target is active; 12, 11, 13 and 14 too
+start(line(0, 0, BEGUN, driven=NONE), TWO)
+start(line(0, 0, BEGUN, 33, NONE), TWO, lent=33)
+cycle(cycled(0, 1, IN_1, driven={0: 120}, reasons=(0, 1)), TWO)
+cycle(cycled(0, 2, BACK, driven=NONE, reasons=(1, 0)), TWO, run=IN_1, clock=1510, inputs=2)
+cycle(cycled(0, 0, altered(IN_1, {"clock": 1509, ("counters", 1): 499}), driven={0: 120}, reasons=(1, 4)), TWO, run=IN_1, clock=1509, inputs=2)
+refused(12, TWO, run=altered(BEGUN, {"active": 4}))
+refused(12, TWO, run=altered(BEGUN, {"hold": 2}), clock=999)
+refused(11, TWO, clock=61_001)
+tally("0 1 0 0", TWO, BACK)
+tally("0 0 1 0", TWO, altered(BACK, {"bad": 1}))
+tally("12 0 0 0", TWO, altered(BACK, {"bad": 2}))
+weighing("0 0 65535", [65535, 65535], TWO)
+weighing("14 0 0", [1, 2], TWO)
+weighing("13 0 0", [1], TWO)
+for kind in (HOLD, RELEASE):
+    key(kind, 0, WIDE, TWO)
+    key(kind, 0, altered(WIDE, {"hold": 1}), TWO)
+    key(kind, 12, altered(WIDE, {"hold": 2}), TWO)
+    key(kind, 12, altered(WIDE, {"active": 7}), TWO)
+
+# "request (i) holds as it reads": a chart that says 2 is written with the record behind its cases, one that says 1 without; chart A takes 157 bytes
+# with it
+CHART_A_2 = second(CHART_A)
+for lent in (157, 158, 7000):
+    writing(0, lent, CHART_A_2, TWO)
+for lent in (156, 153, 152, 5, 0):
+    writing(17, lent, chart=TWO)
+writing(0, 157, CHART_A, {"edition": 1})
+writing(0, 19, step(1) + step(0) + EDITION + END, FEW | TWO)
+writing(17, 18, chart=FEW | TWO)
+writing(0, 160, CHART_A_2, {("initial", 2): 255, ("wait", 63): DAY + 1, ("qualifier", 3): 11, ("casestep", 1): 2, ("expected", 63): 9} | TWO)
+# "A chart then has at most 6,441 bytes"
+FULL_FILE = second(FULL_CHART + END)
+for lent, answer in ((6441, [0, 6441, *FULL_FILE]), (6442, [0, 6441, *FULL_FILE, 6441 % 251]), (6440, [17, 0, *(k % 251 for k in range(6440))])):
+    CASES.append((request(chart_image(FULL_FILE), STILL, WRITING, clock=lent), " ".join(map(str, answer))))
+
+# "targets are not tested, and a step both left and entered stays active". Both steps of chart A are active, step 1 for 500 ms; inputs 0 and 1 are on.
+# Edition 2 takes both transitions: counters 0, the case on step 1 good (input 1). R on step 0 keeps action 1 from being stored.
+BOTH = altered(STILL, {"clock": 1000, "active": 3, ("counters", 0): 7, ("counters", 1): 490})
+SWAPPED = altered(STILL, {"clock": 1010, "active": 3, "activity": 1, "good": 1})
+cycle(cycled(0, 3, SWAPPED, driven={0: 120}), TWO, BOTH, inputs=3)
+# the same chart altered to edition 1 takes none, "a target occupied", and a step counts on
+STAYED = altered(BOTH, {"clock": 1010, "activity": 1, ("counters", 0): 17, ("counters", 1): 500})
+cycle(cycled(0, 0, STAYED, driven={0: 120}, reasons=(5, 5)), NONE, BOTH, inputs=3)
+# .. and under hold both editions take none
+BOTH_KEYED = altered(BOTH, {"hold": 1})
+for chart in (NONE, TWO):
+    cycle(cycled(0, 0, altered(BOTH_KEYED, {"clock": 1010, "activity": 1}), driven={0: 120}, reasons=(7, 7)), chart, BOTH_KEYED, inputs=3)
+# one ms before the wait transition 1 is not taken, and 0 leads into a step that is active and not left: it counts on to 499, and S sets again
+BEFORE = altered(BOTH, {("counters", 1): 489})
+ALONE_1 = altered(STILL, {"clock": 1010, "active": 2, "activity": 3, "stored": 2})
+cycle(cycled(0, 1, altered(ALONE_1, {("counters", 1): 499}), driven={0: 120}, reasons=(0, 4)), TWO, BEFORE, inputs=3)
+cycle(cycled(0, 0, altered(STAYED, {("counters", 1): 499}), driven={0: 120}, reasons=(5, 4)), NONE, BEFORE, inputs=3)
+# its counter stops at 86,400,000 as any
+for counter, then in ((DAY - 11, DAY - 1), (DAY - 10, DAY), (DAY, DAY)):
+    cycle(cycled(0, 1, altered(ALONE_1, {("counters", 1): then}), driven={0: 120}, reasons=(0, 3)),
+          TWO, altered(BOTH, {("counters", 1): counter}), inputs=1)
+# the other one alone: input 1 leads back into step 0, which stays and counts on; step 1 is left, its case marked bad if it expects 0
+for expected, mark in ((1, "good"), (0, "bad")):
+    cycle(cycled(0, 2, altered(STILL, {"clock": 1010, "active": 1, mark: 1, ("counters", 0): 17}), driven=NONE, reasons=(3, 0)),
+          {("expected", 0): expected} | TWO, BOTH, inputs=2)
+    # .. and left and entered as well
+    cycle(cycled(0, 3, altered(SWAPPED, {"good": 0, mark: 1}), driven={0: 120}), {("expected", 0): expected} | TWO, BOTH, inputs=3)
+
+
+def pulsed(q, run, inputs, taken, after, acts, reasons):
+    """Block 1 is on step 1 for action 1, which it alone drives, on output 1; R, on step 0, is for action 0 here."""
+    activity = after["activity"][0] | (2 if acts else 0)
+    driven = {k: value for k, value in {0: 120, 1: 7}.items() if activity >> k & 1}
+    cycle(cycled(0, taken, altered(after, {"activity": activity}), driven=driven, reasons=reasons),
+          {("qualifier", 1): q, ("output", 1): 1, ("blockaction", 2): 0} | TWO, run, inputs=inputs)
+
+
+# P, P1 and P0 on a step that is left and entered act; on a target that is active and not left none does; on one that is entered P and P1; on one
+# that is left P0
+ENTERED_1 = altered(STILL, {"clock": 1010, "active": 2, "activity": 1})
+LEFT_1 = altered(STILL, {"clock": 1010, "active": 1, "good": 1, ("counters", 0): 17})
+for q in (P, P1, P0):
+    pulsed(q, BOTH, 3, 3, altered(SWAPPED, {"activity": 0}), True, (0, 0))
+    pulsed(q, BEFORE, 3, 1, altered(ENTERED_1, {("counters", 1): 499}), False, (0, 4))
+    pulsed(q, BEGUN, 1, 1, ENTERED_1, q != P0, (0, 1))
+    pulsed(q, BOTH, 2, 2, LEFT_1, q == P0, (3, 0))
+# L, D and DS on a step that is left and entered go by the counter 0, and on a target that stays by the one that runs on, here 499
+for q, duration, anew, later in ((L, 100, True, False), (L, 0, False, False), (L, 499, True, False), (L, 500, True, True),
+                                 (D, 100, False, True), (D, 0, True, True), (D, 499, False, True), (D, 500, False, False),
+                                 (DS, 499, False, True), (DS, 500, False, False), (DS, 0, True, True)):
+    chart = {("qualifier", 1): q, ("duration", 1): duration, ("output", 1): 1, ("blockaction", 2): 0} | TWO
+    anew, later = 2 * anew, 2 * later
+    cycle(cycled(0, 3, altered(SWAPPED, {"activity": anew, "stored": anew if q == DS else 0}), driven={1: 7} if anew else NONE),
+          chart, BOTH, inputs=3)
+    stays = altered(ENTERED_1, {"activity": 1 + later, "stored": later if q == DS else 0, ("counters", 1): 499})
+    cycle(cycled(0, 1, stays, driven={0: 120, 1: 7} if later else {0: 120}, reasons=(0, 4)), chart, BEFORE, inputs=3)
+# two transitions into one target, step 2: edition 2 takes both, edition 1 the first, "claimed by an earlier one"; action 1 is on no active step then
+INTO_2 = {"steps": 3, ("targets", 0): 4, ("targets", 1): 4}
+cycle(cycled(0, 3, altered(STILL, {"clock": 1010, "active": 4, "good": 1}), driven=NONE), INTO_2 | TWO, BOTH, inputs=3)
+cycle(cycled(0, 1, altered(STILL, {"clock": 1010, "active": 6, "activity": 3, "stored": 2, ("counters", 1): 500}), driven={0: 120}, reasons=(0, 6)),
+      INTO_2, BOTH, inputs=3)
+# .. and if step 2 is active it stays, with its counter
+IN_ALL = altered(BOTH, {"active": 7, ("counters", 2): 30})
+cycle(cycled(0, 3, altered(STILL, {"clock": 1010, "active": 4, "good": 1, ("counters", 2): 40}), driven=NONE), INTO_2 | TWO, IN_ALL, inputs=3)
+cycle(cycled(0, 0, altered(STAYED, {"active": 7, ("counters", 2): 40}), driven={0: 120}, reasons=(5, 5)), INTO_2, IN_ALL, inputs=3)
+# a source that an earlier one uses is still 2: transition 1 from step 0 too
+cycle(cycled(0, 1, altered(ALONE_1, {("counters", 1): 500}), driven={0: 120}, reasons=(0, 2)),
+      {("sources", 1): 1, ("targets", 1): 2} | TWO, BOTH, inputs=3)
+
+# shifts in edition 2: both at 1010; step 1 waits anew, 499 ms at 1509; at 1510 it is left, and step 0 is active, counts on, and resets action 1
+AFTER_500 = altered(STILL, {"clock": 1510, "active": 1, "good": 1, ("counters", 0): 500})
+shift(0, [1010, 1509, 1510], [3, 2, 2], run=BOTH, chart=TWO, found=[1, 1, 0], after=AFTER_500, driven=NONE)
+shift(0, [1010, 1509, 1510], [3, 2, 2], run=BOTH, found=[1, 1, 1],
+      after=altered(BOTH, {"clock": 1510, "activity": 1, ("counters", 0): 517, ("counters", 1): 1000}), driven={0: 120})
+shift(0, [1010], [3], run=BOTH, chart=TWO, found=[1], after=SWAPPED, driven={0: 120})
+shift(0, [1010], [3], run=BOTH, chart=TWO, lent=64, found=[1], after=SWAPPED, driven={0: 120})
+shift(11, [1010, 1509, 1508, 1510], [3, 2, 2, 2], run=BOTH, chart=TWO, found=[1, 1],
+      after=altered(SWAPPED, {"clock": 1509, ("counters", 0): 499, ("counters", 1): 499}), driven={0: 120})
+shift(11, [999, 1010], [3, 3], run=BOTH, chart=TWO)
+shift(0, [], [], run=BOTH, chart=TWO)
+shift(18, [1010, 1011], [3], run=BOTH, chart=TWO)
+shift(12, [1010], [3], run=altered(BOTH, {"hold": 2}), chart=TWO)
+shift(0, [1010, 1510], [1, 2], chart=TWO, found=[3, 0], after=BACK, driven=NONE)
+# .. with P0 for action 1 on step 1 in the place of S, and R on step 0 for action 0: active in the calls that leave step 1, the first and the third
+shift(0, [1010, 1509, 1510], [3, 2, 2], run=BOTH, chart={("qualifier", 1): P0, ("blockaction", 2): 0} | TWO, found=[2, 0, 2],
+      after=altered(AFTER_500, {"activity": 2}), driven={0: 7})
+# .. 4,096 cycles, of which each leaves and enters both steps: no wait, and both inputs on
+AT_ONCE = {("wait", 1): 0} | TWO
+shift(0, range(1001, 5097), [3] * 4096, run=BOTH, chart=AT_ONCE, found=[1] * 4096, after=altered(SWAPPED, {"clock": 5096}), driven={0: 120})
+# .. under hold: neither, to the end
+shift(0, [1010, 1509, 1510], [3, 2, 3], run=BOTH_KEYED, chart=TWO, found=[1] * 3,
+      after=altered(BOTH_KEYED, {"clock": 1510, "activity": 1}), driven={0: 120})
+
 if __name__ == "__main__":
-    assert len(CASES[0][0]) == 4552 + 437 + 11
+    assert len(CASES[0][0]) == 4560 + 437 + 11
+    # the edition stands behind the last case's expected value, and seven bytes of 0 behind it
+    assert request(altered(A, {("expected", 63): 7, "edition": 2}), STILL, TALLY)[4551:4560] == b"\7\2" + b"\0" * 7
+    assert CASES[0][0][4552] == 1 and chart_image(second(CHART_A)) == altered(A, TWO)
     # the mark is the last byte of the run, in front of the call, and stands between the bad marks and the counters
-    image, text = next((image, text) for image, text in CASES if image[4552 + 437] == HOLD)
-    assert image[4552 + 436:4552 + 439] == b"\2\6\xe8" and text.split(" ")[:12] == "12 0 1509 2 3 2 0 1 0 2 0 499".split(" ")
+    image, text = next((image, text) for image, text in CASES if image[4560 + 437] == HOLD)
+    assert image[4560 + 436:4560 + 439] == b"\2\6\xe8" and text.split(" ")[:12] == "12 0 1509 2 3 2 0 1 0 2 0 499".split(" ")
     store({
         "tests/stored/held_calls.in": b"".join(case for case, _ in CASES),
         "tests/stored/held_calls.out": "".join(text + "\n" for _, text in CASES).encode(),

@@ -1,10 +1,10 @@
 // A second engine for the chart, its cycle and its tally, written from document 01 alone, with the
 // writer of charts from request (i) of document 02, the rule for P from request (ii), the whole
-// shift in one call from request (iii), the reasons why a transition waits from request (vi) and
-// the hold key from request (vii). No other request of document 02 is followed. Words in quotation
-// marks above a function are sentences of document 01, or of request (i), (ii), (iii), (vi) or
-// (vii) where that is said. A function that only serves the command line says so instead, since
-// none of them speaks of that.
+// shift in one call from request (iii), the reasons why a transition waits from request (vi), the
+// hold key from request (vii) and the second edition of the stepping rule from request (viii). No
+// other request of document 02 is followed. Words in quotation marks above a function are sentences
+// of document 01, or of request (i), (ii), (iii), (vi), (vii) or (viii) where that is said. A
+// function that only serves the command line says so instead, since none of them speaks of that.
 
 use std::collections::BTreeSet;
 use std::io::{Read, Write};
@@ -175,7 +175,8 @@ struct Case {
     expected: u8,
 }
 
-// A chart whose tables end at its counts.
+// A chart whose tables end at its counts. Request (viii): "A held chart says 1 or 2." (a byte, so
+// that another can be given; an all-zero chart says 0)
 #[derive(Clone, Default, PartialEq)]
 struct Chart {
     steps: Vec<Step>,
@@ -183,6 +184,7 @@ struct Chart {
     transitions: Vec<Transition>,
     blocks: Vec<Block>,
     cases: Vec<Case>,
+    edition: u8,
 }
 
 #[derive(Clone)]
@@ -296,6 +298,15 @@ fn test_case(case: &Case, steps: usize, actions: usize) -> Result<(), Code> {
     Ok(())
 }
 
+// Request (viii): "A held chart says 1 or 2."; "5 for another edition byte" (of a held chart; a
+// file's record may only say 2)
+fn test_edition(edition: u8) -> Result<(), Code> {
+    if edition != 1 && edition != 2 {
+        return Err(5);
+    }
+    Ok(())
+}
+
 // "9 | no initial step (a chart without steps included)"; "8 | two timed blocks for one action",
 // in the order "9, 8"
 fn test_whole(chart: &Chart) -> Result<(), Code> {
@@ -331,7 +342,7 @@ enum Next {
 }
 
 // "| Kind | Body |": 1 step 1, 2 action 5, 3 transition 36, 4 block 7, 5 case 3, "then one end
-// record (kind 0, no body)"
+// record (kind 0, no body)"; request (viii): "kind 6, one byte"; "3 ... cover the kind"
 fn body_length(kind: u64) -> u64 {
     match kind {
         1 => 1,
@@ -339,13 +350,16 @@ fn body_length(kind: u64) -> u64 {
         3 => 36,
         4 => 7,
         5 => 3,
+        6 => 1,
         _ => 0,
     }
 }
 
 // "Asked so, it tests 1, 2, 3 and the cut body only, and answers the kind with its body's place
 // and length, or the end, or the refusal with the record's place. After the end or a refusal it
-// doesn't move, and asking again answers the same. A place beyond the bytes answers 1."
+// doesn't move, and asking again answers the same. A place beyond the bytes answers 1." Request
+// (viii): "2 now means a kind above 6" (or still one "smaller than the kind before it (kind 0
+// excepted)")
 fn next_record(reader: &mut RecordReader) -> Next {
     let place = reader.place;
     let length = number(reader.bytes, place, 2);
@@ -354,7 +368,7 @@ fn next_record(reader: &mut RecordReader) -> Next {
         (Some(length), Some(kind)) => (length, kind),
         _ => return Next::Refused { code: 1, place },
     };
-    if kind > 5 || (kind != 0 && kind < reader.before) {
+    if kind > 6 || (kind != 0 && kind < reader.before) {
         return Next::Refused { code: 2, place };
     }
     if length != body_length(kind) {
@@ -392,10 +406,10 @@ fn read_chart(bytes: &[u8]) -> Reading {
 }
 
 // "Reading takes records in order and tests each: head (1), 2, 3, body (1), 4, 5, 6, 7. After the
-// end record: 10, 9, 8."
+// end record: 10, 9, 8." Request (viii): "absent means edition 1"
 fn read_records(bytes: &[u8]) -> Result<Chart, (Code, usize)> {
     let mut reader = RecordReader { bytes, place: 0, before: 0 };
-    let mut chart = Chart::default();
+    let mut chart = Chart { edition: 1, ..Chart::default() };
     loop {
         let place = reader.place;
         match next_record(&mut reader) {
@@ -416,7 +430,8 @@ fn read_records(bytes: &[u8]) -> Result<Chart, (Code, usize)> {
     }
 }
 
-// "Kinds stand in the order 1, 2, 3, 4, 5"
+// "Kinds stand in the order 1, 2, 3, 4, 5"; request (viii): "A chart may have one more record, kind
+// 6, ... after the cases"
 fn add_record(chart: &mut Chart, kind: u64, body: &[u8]) -> Result<(), Code> {
     let mut fields = Fields::new(body);
     match kind {
@@ -425,6 +440,7 @@ fn add_record(chart: &mut Chart, kind: u64, body: &[u8]) -> Result<(), Code> {
         3 => add_transition(chart, &mut fields),
         4 => add_block(chart, &mut fields),
         5 => add_case(chart, &mut fields),
+        6 => add_edition(chart, &mut fields),
         _ => Err(2),
     }
 }
@@ -504,6 +520,20 @@ fn add_case(chart: &mut Chart, fields: &mut Fields) -> Result<(), Code> {
     Ok(())
 }
 
+// Request (viii): "kind 6, one byte with the value 2"; "3 and 4 cover the kind, limit one" (a chart
+// that says 2 already has had its record); "5 for another edition byte" (1 is another one too)
+fn add_edition(chart: &mut Chart, fields: &mut Fields) -> Result<(), Code> {
+    let edition = fields.take(1).ok_or(1u64)? as u8;
+    if chart.edition == 2 {
+        return Err(4);
+    }
+    if edition != 2 {
+        return Err(5);
+    }
+    chart.edition = edition;
+    Ok(())
+}
+
 // ---------------------------------------------------------------------------------------------
 // The held chart and the held run
 // ---------------------------------------------------------------------------------------------
@@ -520,7 +550,7 @@ fn test_counts(counts: &Counts) -> Result<(), Code> {
     Ok(())
 }
 
-// "Entries beyond a count play no part."
+// "Entries beyond a count play no part." (the edition of request (viii) has no count and stays)
 fn within_counts(held: &Held) -> Chart {
     let counts = &held.counts;
     let tables = &held.tables;
@@ -530,11 +560,13 @@ fn within_counts(held: &Held) -> Chart {
         transitions: tables.transitions.iter().take(counts.transitions as usize).cloned().collect(),
         blocks: tables.blocks.iter().take(counts.blocks as usize).cloned().collect(),
         cases: tables.cases.iter().take(counts.cases as usize).cloned().collect(),
+        edition: tables.edition,
     }
 }
 
 // "Every call tests it again: 4, then records by kind with 5, 6, 7, then 9, 8. Entries beyond a
-// count play no part."
+// count play no part." Request (viii): "5 for another edition byte, tested in a held chart after
+// the cases"
 fn test_chart(held: &Held) -> Result<Chart, Code> {
     test_counts(&held.counts)?;
     let chart = within_counts(held);
@@ -555,6 +587,7 @@ fn test_chart(held: &Held) -> Result<Chart, Code> {
     for case in &chart.cases {
         test_case(case, steps, actions)?;
     }
+    test_edition(chart.edition)?;
     test_whole(&chart)?;
     Ok(chart)
 }
@@ -722,7 +755,8 @@ fn cycle(held: &Held, run: &Run, clock: u32, inputs: u32, outputs: &mut [i32]) -
     }
 }
 
-// "One cycle", 1 to 6, without hold. "The run keeps the clock reading and the activity."
+// "One cycle", 1 to 6, without hold, in both editions of request (viii). "The run keeps the clock
+// reading and the activity."
 fn do_cycle(chart: &Chart, given: &Run, clock: u32, inputs: u32, outputs: &mut [i32]) -> Answer {
     let mut run = given.clone();
     let signals = signals_of(inputs, &given.activity);
@@ -731,8 +765,9 @@ fn do_cycle(chart: &Chart, given: &Run, clock: u32, inputs: u32, outputs: &mut [
     let taken = take_transitions(chart, &run, &signals);
     let reasons = reasons_of(chart, &run, &signals);
     let left = sources_of(chart, &taken);
-    let entered = targets_of(chart, &taken);
-    move_steps(&mut run, &left, &entered);
+    let targets = targets_of(chart, &taken);
+    let entered = entered_steps(chart, &given.active, &left, &targets);
+    move_steps(&mut run, &left, &targets, &entered);
     mark_cases(chart, &mut run, &left, &signals);
     do_actions(chart, &mut run, &entered, &left);
     write_outputs(chart, &run.activity, outputs);
@@ -759,8 +794,8 @@ fn grow(times: &mut [u32], running: &Set, by: u32) {
 
 // "Transitions are taken in number order. One is taken if all its sources were active at the
 // cycle's beginning and are not a source of one already taken; every "on" signal is 1 and every
-// "off" signal 0; each source's counter has reached the wait; each target was inactive at the
-// beginning and is not a target of one already taken."
+// "off" signal 0; each source's counter has reached the wait; ..." Request (viii): "State the
+// choosing once, with the target test as the only difference."
 fn take_transitions(chart: &Chart, run: &Run, signals: &Set) -> Set {
     let mut taken = Set::new();
     for (k, transition) in chart.transitions.iter().enumerate() {
@@ -770,8 +805,7 @@ fn take_transitions(chart: &Chart, run: &Run, signals: &Set) -> Set {
             && transition.on.is_subset(signals)
             && transition.off.is_disjoint(signals)
             && transition.sources.iter().all(reached)
-            && transition.targets.is_disjoint(&run.active)
-            && transition.targets.is_disjoint(&targets_of(chart, &taken))
+            && targets_allow(chart, transition, &run.active, &taken)
         {
             taken.insert(k);
         }
@@ -779,16 +813,28 @@ fn take_transitions(chart: &Chart, run: &Run, signals: &Set) -> Set {
     taken
 }
 
+// The target test, in edition 1: "... each target was inactive at the beginning and is not a target
+// of one already taken." Request (viii), in edition 2: "targets are not tested"
+fn targets_allow(chart: &Chart, transition: &Transition, active: &Set, taken: &Set) -> bool {
+    chart.edition == 2
+        || (transition.targets.is_disjoint(active)
+            && transition.targets.is_disjoint(&targets_of(chart, taken)))
+}
+
 // Request (vi): "The test answers for each transition"; "Reasons ... beyond the last transition are
 // 0." Document 01: "Transitions are taken in number order." (Used are the sources and claimed are
 // the targets of those already taken. This asks `take_transitions` nothing; the selftest holds the
-// two together.)
+// two together.) Request (viii): in edition 2 "targets are not tested", so neither "a target
+// occupied" nor "a target claimed by an earlier one" is given there.
 fn reasons_of(chart: &Chart, run: &Run, signals: &Set) -> Vec<u8> {
     let mut reasons = no_reasons();
     let mut used = Set::new();
     let mut claimed = Set::new();
     for (k, transition) in chart.transitions.iter().enumerate() {
-        let reason = reason_of(transition, run, signals, &used, &claimed);
+        let reason = match reason_of_sources(transition, run, signals, &used) {
+            0 if chart.edition != 2 => reason_of_targets(transition, run, &claimed),
+            reason => reason,
+        };
         if reason == 0 {
             used.extend(&transition.sources);
             claimed.extend(&transition.targets);
@@ -798,10 +844,10 @@ fn reasons_of(chart: &Chart, run: &Run, signals: &Set) -> Vec<u8> {
     reasons
 }
 
-// Request (vi): "taken; a source not active; a source used by an earlier one; a signal; a wait; a
-// target occupied; a target claimed by an earlier one. The first in this order counts."; "...
-// counting "a source not active" as 1 and so on to 6" (and "taken" as 0)
-fn reason_of(t: &Transition, run: &Run, signals: &Set, used: &Set, claimed: &Set) -> u8 {
+// Request (vi): "taken; a source not active; a source used by an earlier one; a signal; a wait; ...
+// The first in this order counts."; "... counting "a source not active" as 1 and so on to 6" (and
+// "taken" as 0: nothing up to the wait holds it back)
+fn reason_of_sources(t: &Transition, run: &Run, signals: &Set, used: &Set) -> u8 {
     if t.sources.iter().any(|step| !run.active.contains(step)) {
         return 1;
     }
@@ -817,6 +863,12 @@ fn reason_of(t: &Transition, run: &Run, signals: &Set, used: &Set, claimed: &Set
     if t.sources.iter().any(|step| at(&run.step_counters, *step) < t.wait) {
         return 4;
     }
+    0
+}
+
+// Request (vi): "... a target occupied; a target claimed by an earlier one. The first in this order
+// counts." (as 5 and 6, and "taken" as 0)
+fn reason_of_targets(t: &Transition, run: &Run, claimed: &Set) -> u8 {
     if t.targets.iter().any(|step| run.active.contains(step)) {
         return 5;
     }
@@ -835,7 +887,7 @@ fn sources_of(chart: &Chart, taken: &Set) -> Set {
     sources
 }
 
-// "Sources of taken transitions are left, targets entered."
+// "Sources of taken transitions are left, targets entered." (the targets)
 fn targets_of(chart: &Chart, taken: &Set) -> Set {
     let mut targets = Set::new();
     for transition in taken.iter().filter_map(|k| chart.transitions.get(*k)) {
@@ -844,11 +896,23 @@ fn targets_of(chart: &Chart, taken: &Set) -> Set {
     targets
 }
 
+// "Sources of taken transitions are left, targets entered." Request (viii): "In edition 2 a step
+// counts as entered if it is a target and was inactive or left" (inactive at the cycle's beginning;
+// left in this cycle)
+fn entered_steps(chart: &Chart, before: &Set, left: &Set, targets: &Set) -> Set {
+    if chart.edition != 2 {
+        return targets.clone();
+    }
+    let inactive_or_left = |step: &usize| !before.contains(step) || left.contains(step);
+    targets.iter().copied().filter(inactive_or_left).collect()
+}
+
 // "Sources of taken transitions are left, targets entered. A step entered or inactive has counter
-// 0."
-fn move_steps(run: &mut Run, left: &Set, entered: &Set) {
+// 0." Request (viii): "a step both left and entered stays active"; "then its counter is 0,
+// otherwise it runs on" (a target that was active and not left stays active with its counter)
+fn move_steps(run: &mut Run, left: &Set, targets: &Set, entered: &Set) {
     run.active = run.active.difference(left).copied().collect();
-    run.active.extend(entered);
+    run.active.extend(targets);
     for step in 0..64 {
         if entered.contains(&step) || !run.active.contains(&step) {
             put(&mut run.step_counters, step, 0);
@@ -857,7 +921,7 @@ fn move_steps(run: &mut Run, left: &Set, entered: &Set) {
 }
 
 // "For each case on a left step, the signal of this cycle is compared: equal sets its good mark,
-// different its bad mark."
+// different its bad mark." (a step both left and entered is a left step too)
 fn mark_cases(chart: &Chart, run: &mut Run, left: &Set, signals: &Set) {
     for (k, case) in chart.cases.iter().enumerate() {
         if left.contains(&case.step) {
@@ -1094,7 +1158,9 @@ fn test_writing(held: &Held, lent: &[u8]) -> Result<Vec<u8>, Code> {
 }
 
 // "A file is a run of records"; "Kinds stand in the order 1, 2, 3, 4, 5, then one end record (kind
-// 0, no body) and nothing more."; "each numbered from 0 in file order"
+// 0, no body) and nothing more."; "each numbered from 0 in file order"; request (viii): "one more
+// record, kind 6, ... after the cases; absent means edition 1 ..., and request (i) holds as it
+// reads"
 fn file_of(chart: &Chart) -> Vec<u8> {
     let mut file = Vec::new();
     for step in &chart.steps {
@@ -1111,6 +1177,9 @@ fn file_of(chart: &Chart) -> Vec<u8> {
     }
     for case in &chart.cases {
         file.extend(written_case(case));
+    }
+    if chart.edition == 2 {
+        file.extend(written_edition());
     }
     file.extend(written_record(0, &[]));
     file
@@ -1172,6 +1241,11 @@ fn written_block(block: &Block) -> Vec<u8> {
 fn written_case(case: &Case) -> Vec<u8> {
     let fields = [(case.step as u64, 1), (case.signal as u64, 1), (u64::from(case.expected), 1)];
     written_record(5, &fields)
+}
+
+// Request (viii): "kind 6, one byte with the value 2"
+fn written_edition() -> Vec<u8> {
+    written_record(6, &[(2, 1)])
 }
 
 // ---------------------------------------------------------------------------------------------
@@ -1283,7 +1357,8 @@ fn turn_key(held: &Held, given: &Run, mark: u8) -> Turned {
 // Request (vii): "In a cycle under hold no transition is taken and step counters stand still, while
 // action timers run on. Actions and outputs are worked out as usual, with nothing entered or left."
 // Document 01: "The run keeps the clock reading and the activity." (The inputs play no part:
-// without guards and left steps nothing reads them.)
+// without guards and left steps nothing reads them. Nor does the edition of request (viii): without
+// taken transitions there are no targets.)
 fn do_cycle_under_hold(chart: &Chart, given: &Run, clock: u32, outputs: &mut [i32]) -> Answer {
     let nothing = Set::new();
     let mut run = given.clone();
@@ -1419,7 +1494,7 @@ fn tally_line(tally: &Tally) -> String {
 }
 
 // ---------------------------------------------------------------------------------------------
-// The command line (not spoken of in document 01 or in requests (i), (ii), (iii), (vi) and (vii))
+// The command line (not spoken of in document 01 or in the requests followed)
 // ---------------------------------------------------------------------------------------------
 
 // For the command line: one case of `print`, and what is printed for it.
@@ -1434,8 +1509,8 @@ fn print_case(input: &mut Fields) -> Option<Vec<u8>> {
     Some(output)
 }
 
-// For the command line: one case of `read`. "A refused reading returns an all-zero chart and a
-// place"
+// For the command line: one case of `read`: the number, the place, the five counts and, last, the
+// edition. "A refused reading returns an all-zero chart and a place" (so its edition is 0)
 fn read_case(input: &mut Fields) -> Option<Vec<u8>> {
     let length = input.take(4)?;
     let reading = read_chart(input.slice(length as usize)?);
@@ -1448,6 +1523,7 @@ fn read_case(input: &mut Fields) -> Option<Vec<u8>> {
         counts.transitions,
         counts.blocks,
         counts.cases,
+        u64::from(reading.chart.edition),
     ];
     Some(line_of(line.iter()))
 }
@@ -1474,7 +1550,8 @@ fn line_of<T: ToString>(values: impl Iterator<Item = T>) -> Vec<u8> {
     (words.join(" ") + "\n").into_bytes()
 }
 
-// For the command line: a chart image.
+// For the command line: a chart image, with the edition behind the table of expected values and
+// then 7 bytes of padding, which are passed over.
 fn chart_image(input: &mut Fields) -> Option<Held> {
     let counts = Counts {
         steps: input.take(8)?,
@@ -1495,7 +1572,9 @@ fn chart_image(input: &mut Fields) -> Option<Held> {
         transitions: transitions_image(input)?,
         blocks: blocks_image(input)?,
         cases: cases_image(input)?,
+        edition: input.take(1)? as u8,
     };
+    input.slice(7)?;
     Some(Held { counts, tables })
 }
 
@@ -1770,6 +1849,11 @@ fn case(step: u8, signal: u8, expected: u8) -> Vec<u8> {
     record(5, &[step, signal, expected])
 }
 
+// Request (viii): "kind 6, one byte with the value 2" (here with any value)
+fn edition(value: u8) -> Vec<u8> {
+    record(6, &[value])
+}
+
 // "then one end record (kind 0, no body)"
 fn end() -> Vec<u8> {
     record(0, &[])
@@ -1858,6 +1942,8 @@ impl Bench {
             counts.steps + counts.actions + counts.transitions + counts.blocks + counts.cases;
         let right = reading.code == code && reading.place == place;
         self.check(name, right && (code == 0 || sum == 0) && (code != 0 || sum != 0));
+        let edition = reading.chart.edition;
+        self.check(name, if code == 0 { edition == 1 || edition == 2 } else { edition == 0 });
     }
 
     // The reasons after a start at 0 and cycles: these digits, and 0 for every number behind them;
@@ -1944,6 +2030,28 @@ fn selftest() {
     check_hold_by_lot(&mut bench);
     check_hold_between(&mut bench);
     check_hold_lines(&mut bench);
+    check_edition_record(&mut bench);
+    check_edition_places(&mut bench);
+    check_edition_limits(&mut bench);
+    check_edition_next(&mut bench);
+    check_edition_held(&mut bench);
+    check_edition_zero(&mut bench);
+    check_edition_order(&mut bench);
+    check_edition_writing(&mut bench);
+    check_edition_taken(&mut bench);
+    check_edition_counters(&mut bench);
+    check_edition_pulses(&mut bench);
+    check_edition_actions(&mut bench);
+    check_edition_cases(&mut bench);
+    check_edition_reasons(&mut bench);
+    check_edition_hold(&mut bench);
+    check_edition_shift(&mut bench);
+    check_edition_same(&mut bench);
+    check_edition_by_lot(&mut bench);
+    check_edition_ledger(&mut bench);
+    check_edition_weighed(&mut bench);
+    check_edition_printed(&mut bench);
+    check_edition_lines(&mut bench);
     check_printed(&mut bench);
     check_printed_second(&mut bench);
     check_printed_no_second(&mut bench);
@@ -1956,7 +2064,8 @@ fn selftest() {
 // The selftest: the reader
 // ---------------------------------------------------------------------------------------------
 
-// Rows 1, 2 and 3, with "head (1), 2, 3, body (1)"; "Empty file: 1, place 0."
+// Rows 1, 2 and 3, with "head (1), 2, 3, body (1)"; "Empty file: 1, place 0."; request (viii): "2
+// now means a kind above 6"
 fn check_framing(b: &mut Bench) {
     b.reads("empty file", &[], 1, 0);
     b.reads("three bytes", &[vec![1, 0, 1]], 1, 0);
@@ -1964,10 +2073,10 @@ fn check_framing(b: &mut Bench) {
     b.reads("end record cut", &[step(1), vec![0, 0, 0]], 1, 5);
     b.reads("body cut", &[step(1), vec![5, 0, 2, 0, 0, 0, 0, 0]], 1, 5);
     b.reads("body missing", &[vec![1, 0, 1, 0]], 1, 0);
-    b.reads("kind 6", &[step(1), record(6, &[])], 2, 5);
+    b.reads("kind 7", &[step(1), record(7, &[])], 2, 5);
     b.reads("kind 256", &[step(1), record(256, &[])], 2, 5);
     b.reads("kind 1 after 2", &[step(1), action(0, 0), step(0), end()], 2, 14);
-    b.reads("2 before 3", &[step(1), record(6, &[1, 2])], 2, 5);
+    b.reads("2 before 3", &[step(1), record(7, &[1, 2])], 2, 5);
     b.reads("2 before 3, smaller", &[step(1), action(0, 0), vec![9, 0, 1, 0]], 2, 14);
     b.reads("step of 2", &[record(1, &[1, 0]), end()], 3, 0);
     b.reads("step of 0", &[record(1, &[]), end()], 3, 0);
@@ -2090,7 +2199,7 @@ fn check_next_record(b: &mut Bench) {
     b.check("second record", next_record(&mut reader) == second);
     b.check("the end", next_record(&mut reader) == Next::End);
     b.check("the end again", next_record(&mut reader) == Next::End);
-    let file = [step(1), record(6, &[])].concat();
+    let file = [step(1), record(7, &[])].concat();
     let mut reader = RecordReader { bytes: &file, place: 0, before: 0 };
     let refused = Next::Refused { code: 2, place: 5 };
     b.check("record before the refusal", next_record(&mut reader) == first);
@@ -2106,6 +2215,11 @@ fn check_next_record(b: &mut Bench) {
 // ---------------------------------------------------------------------------------------------
 // The selftest: held charts and runs
 // ---------------------------------------------------------------------------------------------
+
+// "9 | no initial step (a chart without steps included)" (such a chart of edition 1, held)
+fn held_without_steps() -> Held {
+    hold(&Chart { edition: 1, ..Chart::default() })
+}
 
 // The number that the test of a held chart gives, 0 if accepted.
 fn held_code(held: &Held) -> Code {
@@ -2132,7 +2246,7 @@ fn check_held_counts(b: &mut Bench) {
         held.counts.blocks = beyond.saturating_add(257);
         b.check("held blocks", held_code(&held) == 4);
     }
-    let mut held = hold(&Chart::default());
+    let mut held = held_without_steps();
     b.check("held chart without steps", held_code(&held) == 9);
     held.counts.cases = 65;
     b.check("4 before 9", held_code(&held) == 4);
@@ -2684,7 +2798,7 @@ fn check_writing_17(b: &mut Bench) {
 // Request (i): "the chart's own first, then 17"; document 01: "4, then records by kind with 5, 6,
 // 7, then 9, 8"
 fn check_writing_order(b: &mut Bench) {
-    let empty = hold(&Chart::default());
+    let empty = held_without_steps();
     b.check("no steps, 9 before 17", wrote(&empty, 0) == (9, 0, vec![]));
     b.check("no steps, room enough", wrote(&empty, 4) == (9, 0, vec![9; 4]));
     for lent in [0, 151, 152, 200].iter() {
@@ -2967,7 +3081,7 @@ fn check_shift_11_places(b: &mut Bench) {
 fn check_shift_order(b: &mut Bench) {
     let mut broken = held_a();
     broken.counts.steps = 65;
-    let empty = hold(&Chart::default());
+    let empty = held_without_steps();
     let mut strange = zero_run();
     strange.active = numbers(3);
     for lengths in [[0; 3], [1; 3], [3; 3], [1, 2, 3], [4097; 3]].iter() {
@@ -3040,7 +3154,8 @@ fn check_shift_4096(b: &mut Bench) {
 }
 
 // For the command line: the chart and the run of a case of `held`: one step, action 0 (output 0,
-// value 7) with D 100 on it; clock 1000, the step active and the hold mark 0.
+// value 7) with D 100 on it, edition 1 and the padding; clock 1000, the step active and the hold
+// mark 0.
 fn held_image() -> Vec<u8> {
     let mut image = Vec::new();
     for count in [1u64, 1, 0, 1, 0].iter() {
@@ -3048,7 +3163,7 @@ fn held_image() -> Vec<u8> {
     }
     image.extend([vec![1], vec![0; 63], vec![0; 32], vec![7], vec![0; 127]].concat());
     image.extend([vec![0; 4 * 512 + 256], vec![0; 512], vec![4], vec![0; 255]].concat());
-    image.extend([vec![100], vec![0; 1023], vec![0; 192]].concat());
+    image.extend([vec![100], vec![0; 1023], vec![0; 192], vec![1], vec![0; 7]].concat());
     image.extend([vec![232, 3, 0, 0, 1], vec![0; 31], vec![0; 256 + 128 + 16], vec![0]].concat());
     image
 }
@@ -3644,7 +3759,7 @@ fn check_hold_refusals(b: &mut Bench) {
     let mut marked = run_a();
     marked.bad = numbers(2);
     let runs = [strange, counted, timed, long, marked];
-    let empty = hold(&Chart::default());
+    let empty = held_without_steps();
     for mark in [0, 1, 2, 255].iter() {
         for run in runs.iter().chain([with_mark(&run_a(), 2)].iter()) {
             let run = with_mark(run, if run.hold_mark == 2 { 2 } else { *mark });
@@ -4420,6 +4535,1259 @@ fn check_hold_lines(b: &mut Bench) {
     b.check("the mark is the last byte", mark == Some(200) && fields.place == 437);
     let mut fields = Fields::new(image.get(first..first + 436).unwrap_or(&[]));
     b.check("an image without the mark", run_image(&mut fields).is_none());
+}
+
+// ---------------------------------------------------------------------------------------------
+// The selftest: the second edition
+// ---------------------------------------------------------------------------------------------
+
+// Chart A without its end record, with the record of request (viii) and then the end record.
+fn chart_a_second() -> Vec<u8> {
+    let records = chart_a().get(..148).unwrap_or(&[]).to_vec();
+    [records, edition(2), end()].concat()
+}
+
+// A held chart with another edition and all else as it is.
+fn in_edition(held: &Held, edition: u8) -> Held {
+    let mut held = held.clone();
+    held.tables.edition = edition;
+    held
+}
+
+// A chart of edition 2 by its record: steps, initial where the digit is 1, and these transitions.
+fn second_steps(initial: &[u8], moves: &[Vec<u8>]) -> Held {
+    let steps: Vec<Vec<u8>> = initial.iter().map(|digit| step(*digit)).collect();
+    held_of(&[steps.concat(), moves.concat(), edition(2)])
+}
+
+// Request (viii): "A chart may have one more record, kind 6, one byte with the value 2, after the
+// cases; absent means edition 1"; "5 for another edition byte"
+fn check_edition_record(b: &mut Bench) {
+    let said = |records: &[Vec<u8>]| held_of(records).tables.edition;
+    let two = || [step(1), step(0)].concat();
+    let away = || transition(1, 2, 0, 0, 0);
+    b.reads("edition 2", &[step(1), edition(2), end()], 0, 0);
+    b.check("edition 2 is read", said(&[step(1), edition(2)]) == 2);
+    b.check("absent means edition 1", said(&[step(1)]) == 1);
+    b.check("the record has five bytes", edition(2) == [1, 0, 6, 0, 2]);
+    for byte in 0..=255 {
+        let (code, place) = if byte == 2 { (0, 0) } else { (5, 5) };
+        b.reads("an edition byte", &[step(1), edition(byte), end()], code, place);
+        let (code, place) = if byte == 2 { (0, 0) } else { (5, 148) };
+        let records = chart_a().get(..148).unwrap_or(&[]).to_vec();
+        b.reads("an edition byte, chart A", &[records, edition(byte), end()], code, place);
+    }
+    // After the cases, or after what stands in their place if there are none.
+    let with_action = || [two(), action(0, 1)].concat();
+    let with_block = || [with_action(), away(), block(0, 0, 0, 0)].concat();
+    b.check("after an action", said(&[with_action(), edition(2)]) == 2);
+    b.check("after a transition", said(&[two(), away(), edition(2)]) == 2);
+    b.check("after a block", said(&[with_block(), edition(2)]) == 2);
+    b.check("after a case", said(&[with_block(), case(0, 0, 0), edition(2)]) == 2);
+    b.check("a case alone", said(&[with_block(), case(0, 0, 0)]) == 1);
+    // All else of the chart is read as before.
+    b.check("chart A in edition 2 has 157 bytes", chart_a_second().len() == 157);
+    let reading = read_chart(&chart_a_second());
+    b.check("chart A in edition 2", reading.code == 0 && reading.place == 0);
+    b.check("chart A in edition 2 says 2", reading.chart.edition == 2);
+    b.check("and is chart A", reading.chart == in_edition(&held_a(), 2).tables);
+    b.check("chart A says 1", held_a().tables.edition == 1 && reading.chart != held_a().tables);
+    let counts = hold(&reading.chart).counts;
+    let all = [counts.steps, counts.actions, counts.transitions, counts.blocks, counts.cases];
+    b.check("its counts", all == [2, 2, 2, 3, 1]);
+    // "6 | a transition has ... a step that is both" and the other rows stay in edition 2.
+    b.reads("still 6", &[two(), transition(3, 2, 0, 0, 0), edition(2), end()], 6, 10);
+    b.reads("still 7", &[two(), transition(1, 2, 4, 4, 0), edition(2), end()], 7, 10);
+    b.reads("still 5", &[two(), transition(1, 4, 0, 0, 0), edition(2), end()], 5, 10);
+}
+
+// Request (viii): "after the cases" (at every place of chart A; the record behind it is then
+// "smaller than the kind before it"); "2 now means a kind above 6"
+fn check_edition_places(b: &mut Bench) {
+    let split = |place: usize| {
+        let mut first = chart_a();
+        let second = first.split_off(place);
+        (first, second)
+    };
+    for place in [0, 5, 10, 19, 28, 68, 108, 119, 130, 141].iter() {
+        let (first, second) = split(*place);
+        let with = |record: Vec<u8>| [first.clone(), record, second.clone()];
+        b.reads("too early", &with(edition(2)), 2, place + 5);
+        b.reads("too early, 5 of its own first", &with(edition(1)), 5, *place);
+        b.reads("too early, 3 of its own first", &with(record(6, &[])), 3, *place);
+        b.reads("too early, twice", &with(edition(2).repeat(2)), 4, place + 5);
+        b.reads("too early, kind 7", &with(record(7, &[2])), 2, *place);
+    }
+    let (first, second) = split(148);
+    b.reads("in its place", &[first.clone(), edition(2), second.clone()], 0, 0);
+    b.reads("in its place, kind 7", &[first.clone(), record(7, &[2]), second.clone()], 2, 148);
+    b.reads("behind the end record", &[chart_a(), edition(2)], 10, 152);
+    b.reads("behind it, end again", &[chart_a(), edition(2), end()], 10, 152);
+    b.reads("no end record", &[first.clone(), edition(2)], 1, 153);
+    b.reads("the end record cut", &[first, edition(2), vec![0, 0, 0]], 1, 153);
+    for kind in [7, 8, 255, 256, 262, 1536, 1537, 65_535].iter() {
+        b.reads("above 6", &[step(1), record(*kind, &[2]), end()], 2, 5);
+        b.reads("above 6, no body", &[step(1), record(*kind, &[])], 2, 5);
+        b.reads("above 6, after 6", &[step(1), edition(2), record(*kind, &[2]), end()], 2, 10);
+        b.reads("above 6, first", &[record(*kind, &[2]), end()], 2, 0);
+    }
+    let smaller =
+        [step(1), action(0, 1), transition(1, 2, 0, 0, 0), block(0, 0, 0, 0), case(0, 0, 0)];
+    for record in smaller.iter() {
+        b.reads("below 6, after 6", &[step(1), edition(2), record.clone(), end()], 2, 10);
+    }
+    b.reads("2 before 3, after 6", &[step(1), edition(2), vec![9, 0, 5, 0]], 2, 10);
+    b.reads("2 before the cut body", &[step(1), edition(2), vec![3, 0, 5, 0]], 2, 10);
+}
+
+// Request (viii): "3 and 4 cover the kind, limit one"; document 01: "head (1), 2, 3, body (1), 4,
+// 5, 6, 7. After the end record: 10, 9, 8."; request (viii): "A chart then has at most 6,441
+// bytes."
+fn check_edition_limits(b: &mut Bench) {
+    for length in [0, 2, 3, 4, 5, 7, 36, 256, 257].iter() {
+        b.reads("edition of this length", &[step(1), record(6, &vec![2; *length]), end()], 3, 5);
+        let second = record(6, &vec![2; *length]);
+        b.reads("the second of it, 3 before 4", &[step(1), edition(2), second, end()], 3, 10);
+    }
+    b.reads("3 before the cut body", &[step(1), vec![2, 0, 6, 0]], 3, 5);
+    b.reads("3, the longest", &[step(1), vec![255, 255, 6, 0, 2], end()], 3, 5);
+    b.reads("3, the length's upper byte", &[step(1), vec![1, 1, 6, 0, 2], end()], 3, 5);
+    b.reads("head cut", &[step(1), vec![1, 0, 6]], 1, 5);
+    b.reads("body missing", &[step(1), vec![1, 0, 6, 0]], 1, 5);
+    b.reads("second head cut", &[step(1), edition(2), vec![1, 0, 6]], 1, 10);
+    b.reads("cut body before 4", &[step(1), edition(2), vec![1, 0, 6, 0]], 1, 10);
+    b.reads("a second record", &[step(1), edition(2), edition(2), end()], 4, 10);
+    b.reads("three records", &[step(1), edition(2).repeat(3), end()], 4, 10);
+    b.reads("a second record, no end", &[step(1), edition(2), edition(2)], 4, 10);
+    for byte in 0..=255 {
+        b.reads("4 before 5", &[step(1), edition(2), edition(byte), end()], 4, 10);
+        if byte != 2 {
+            b.reads("first record first", &[step(1), edition(byte), edition(2), end()], 5, 5);
+        }
+    }
+    b.reads("end after kind 6", &[step(1), edition(2), end()], 0, 0);
+    b.reads("end of 1 after kind 6", &[step(1), edition(2), record(0, &[0])], 3, 10);
+    b.reads("surplus byte", &[step(1), edition(2), end(), vec![0]], 10, 14);
+    b.reads("second end record", &[step(1), edition(2), end(), end()], 10, 14);
+    b.reads("no steps", &[edition(2), end()], 9, 0);
+    b.reads("no initial step", &[step(0), edition(2), end()], 9, 0);
+    b.reads("10 before 9", &[edition(2), end(), vec![7]], 10, 9);
+    let timed = || block(0, 0, 3, 5).repeat(2);
+    b.reads("8", &[step(1), action(0, 0), timed(), edition(2), end()], 8, 0);
+    b.reads("9 before 8", &[step(0), action(0, 0), timed(), edition(2), end()], 9, 0);
+    b.reads("10 before 8", &[step(1), action(0, 0), timed(), edition(2), end(), vec![1]], 10, 45);
+    b.reads("5 before 10", &[step(1), edition(1), end(), vec![1]], 5, 5);
+    b.reads("5 before 9", &[step(0), edition(1), end()], 5, 5);
+    b.reads("5 before 8", &[step(1), action(0, 0), timed(), edition(3), end()], 5, 36);
+    let most = [
+        step(1).repeat(64),
+        action(31, -1).repeat(32),
+        transition(1, 2, 0, 0, 0).repeat(64),
+        block(0, 0, 0, 0).repeat(256),
+        case(0, 0, 0).repeat(64),
+    ]
+    .concat();
+    let full = [most.clone(), edition(2), end()].concat();
+    b.check("fullest chart has 6,441 bytes", full.len() == 6441);
+    b.check("fullest chart says 2", read_chart(&full).chart.edition == 2);
+    b.reads("fullest chart", &[full.clone()], 0, 0);
+    b.reads("fullest chart and a byte", &[full, vec![0]], 10, 6441);
+    b.reads("fullest chart, two", &[most.clone(), edition(2), edition(2), end()], 4, 6437);
+    b.reads("a 65th case", &[most.clone(), case(0, 0, 0), edition(2), end()], 4, 6432);
+    b.reads("a 65th case behind it", &[most, edition(2), case(0, 0, 0), end()], 2, 6437);
+}
+
+// "Asked so, it tests 1, 2, 3 and the cut body only" (with request (viii): neither the edition byte
+// nor the limit of one); "After the end or a refusal it doesn't move, and asking again answers the
+// same."
+fn check_edition_next(b: &mut Bench) {
+    let file = [step(1), edition(9), edition(2), end()].concat();
+    let mut reader = RecordReader { bytes: &file, place: 0, before: 0 };
+    let of = |kind, body| Next::Record { kind, body, length: 1 };
+    b.check("a step", next_record(&mut reader) == of(1, 4));
+    b.check("an edition, any byte", next_record(&mut reader) == of(6, 9));
+    b.check("a second edition", next_record(&mut reader) == of(6, 14));
+    b.check("the end", next_record(&mut reader) == Next::End);
+    b.check("the end again", next_record(&mut reader) == Next::End);
+    let tails = [
+        (case(0, 0, 0), 2),
+        (step(1), 2),
+        (record(7, &[2]), 2),
+        (record(6, &[]), 3),
+        (record(6, &[2, 2]), 3),
+        (vec![1, 0, 6, 0], 1),
+        (vec![1, 0, 6], 1),
+        (vec![], 1),
+    ];
+    for (tail, code) in tails.iter() {
+        let file = [edition(2), tail.clone()].concat();
+        let mut reader = RecordReader { bytes: &file, place: 0, before: 0 };
+        b.check("an edition first", next_record(&mut reader) == of(6, 4));
+        let refused = Next::Refused { code: *code, place: 5 };
+        b.check("then a refusal", next_record(&mut reader) == refused);
+        b.check("and again", next_record(&mut reader) == refused);
+    }
+}
+
+// All the calls on a held chart: start, cycle, tally, weighing, writing, shift of none, setting and
+// clearing the mark, with what each returns and leaves if it is refused: their numbers, or 99 where
+// a refused one returns or leaves something else.
+fn codes_of_calls(held: &Held, run: &Run, weights: usize) -> Vec<Code> {
+    let mut outputs = vec![8; 33];
+    let began = start(held, 7, &mut outputs);
+    let kept = began.run == zero_run() && began.taken.is_empty() && outputs == vec![8; 33];
+    let begun = if began.code != 0 && !kept { 99 } else { began.code };
+    let mut outputs = vec![8; 33];
+    let cycled = cycle(held, run, run.clock, 1, &mut outputs);
+    let kept = cycled.run == *run && cycled.taken.is_empty() && outputs == vec![8; 33];
+    let kept = kept && cycled.reasons == no_reasons();
+    let cycled = if cycled.code != 0 && !kept { 99 } else { cycled.code };
+    let counted = tally(held, run);
+    let zeros = [counted.passed, counted.failed, counted.notrun] == [0; 3];
+    let counted = if counted.code != 0 && !zeros { 99 } else { counted.code };
+    let weighed = weighing(held, &vec![0; weights]);
+    let zeros = weighed.total == 0 && weighed.transition == 0;
+    let weighed = if weighed.code != 0 && !zeros { 99 } else { weighed.code };
+    let (code, length, bytes) = wrote(held, 200);
+    let kept = length == 0 && bytes == vec![9; 200];
+    let written = if code != 0 && !kept { 99 } else { code };
+    let shifted = shift_code(held, run, [0; 3], 32, 0);
+    let turned = [set_hold(held, run), clear_hold(held, run)];
+    let turned = turned.iter().map(|t| if t.code != 0 && t.run != *run { 99 } else { t.code });
+    let mut codes = vec![begun, cycled, counted, weighed, written, shifted];
+    codes.extend(turned);
+    codes
+}
+
+// Request (viii): "A held chart says 1 or 2."; "5 for another edition byte, tested in a held chart
+// after the cases"; document 01: "4, then records by kind with 5, 6, 7, then 9, 8"
+fn check_edition_held(b: &mut Bench) {
+    for byte in 0..=255 {
+        let wanted = if byte == 1 || byte == 2 { 0 } else { 5 };
+        let held = in_edition(&held_a(), byte);
+        b.check("held edition", held_code(&held) == wanted);
+        b.check("held edition, all calls", codes_of_calls(&held, &run_a(), 2) == [wanted; 8]);
+        let junk = in_edition(&held_a_with_junk(), byte);
+        b.check("held edition beside junk", held_code(&junk) == wanted);
+        let mut none = in_edition(&held_without_steps(), byte);
+        let first = if wanted == 5 { 5 } else { 9 };
+        b.check("held edition, no steps", held_code(&none) == first);
+        b.check("no steps, all calls", codes_of_calls(&none, &zero_run(), 0) == vec![first; 8]);
+        none.counts.blocks = 257;
+        b.check("4 before the edition, no steps", held_code(&none) == 4);
+        let mut held = in_edition(&held_a(), byte);
+        let timed = Block { step: 0, action: 0, qualifier: 3, duration: 9 };
+        held.tables.blocks = vec![timed.clone(), timed.clone(), timed];
+        b.check("the edition before 8", held_code(&held) == if wanted == 5 { 5 } else { 8 });
+        held.tables.steps = vec![Step { initial: 0 }, Step { initial: 0 }];
+        b.check("the edition before 9", held_code(&held) == first);
+        held.tables.cases = vec![Case { step: 0, signal: 0, expected: 2 }];
+        b.check("a case's 5 too", held_code(&held) == 5);
+        if let Some(first) = held.tables.transitions.first_mut() {
+            first.off = set_of(1);
+        }
+        b.check("7 before the edition", held_code(&held) == 7);
+        b.check("7, all calls", codes_of_calls(&held, &run_a(), 2) == [7; 8]);
+        if let Some(first) = held.tables.transitions.first_mut() {
+            first.targets = set_of(1);
+        }
+        b.check("6 before the edition", held_code(&held) == 6);
+        held.counts.actions = 33;
+        b.check("4 before the edition", held_code(&held) == 4);
+    }
+}
+
+// Request (viii): "A held chart says 1 or 2."; document 01: "A refused reading returns an all-zero
+// chart" (which says 0 and so is refused 5, not 9, since the edition is tested before them)
+fn check_edition_zero(b: &mut Bench) {
+    let zero = Chart::default();
+    b.check("an all-zero chart says 0", zero.edition == 0 && zero.steps.is_empty());
+    b.check("an all-zero chart, 5", held_code(&hold(&zero)) == 5);
+    b.check("in all calls", codes_of_calls(&hold(&zero), &zero_run(), 0) == [5; 8]);
+    let files = [
+        vec![],
+        end(),
+        [step(1), edition(1), end()].concat(),
+        [step(1), edition(2), edition(2), end()].concat(),
+        [step(1), edition(2), end(), end()].concat(),
+        [step(0), edition(2), end()].concat(),
+        [step(1), edition(2), step(1), end()].concat(),
+        [step(1), record(6, &[]), end()].concat(),
+        [chart_a_second(), vec![0]].concat(),
+    ];
+    for file in files.iter() {
+        let reading = read_chart(file);
+        b.check("refused, all zero", reading.code != 0 && reading.chart == zero);
+        b.check("refused, then held", held_code(&hold(&reading.chart)) == 5);
+    }
+}
+
+// The order of every call with a chart of another edition: "Start tests 15 and then the chart; a
+// cycle tests 15, chart, 12, 11; the tally chart, 12; the weighing chart, 13, 14"; request (i):
+// "the chart's own first, then 17"; request (iii): "15, chart, 12, then 18 ...; then 11"; request
+// (vii): "chart, then 12"
+fn check_edition_order(b: &mut Bench) {
+    let mut strange = run_a();
+    strange.active = numbers(3);
+    for byte in [0, 3, 4, 128, 255].iter() {
+        let held = in_edition(&held_a(), *byte);
+        let mut few = vec![8; 31];
+        let mut enough = vec![8; 32];
+        let answer = start(&held, 7, &mut few);
+        b.check("start, 15 first", answer.code == 15 && answer.run == zero_run());
+        let answer = start(&held, 7, &mut enough);
+        b.check("start, then 5", answer.code == 5 && answer.run == zero_run());
+        let answer = cycle(&held, &strange, 999, 1, &mut few);
+        b.check("cycle, 15 first", answer.code == 15 && answer.run == strange);
+        let answer = cycle(&held, &strange, 999, 1, &mut enough);
+        b.check("cycle, 5 before 12", answer.code == 5 && answer.run == strange);
+        let answer = cycle(&held, &run_a(), 999, 1, &mut enough);
+        b.check("cycle, 5 before 11", answer.code == 5 && answer.run == run_a());
+        b.check("outputs untouched", few == vec![8; 31] && enough == vec![8; 32]);
+        let zeros = Tally { code: 5, passed: 0, failed: 0, notrun: 0 };
+        b.check("tally, 5 before 12", tally(&held, &strange) == zeros);
+        b.check("weighing, 5 before 13", weighing(&held, &[1]) == refused_weighing(5, 0));
+        b.check("weighing, 5 before 14", weighing(&held, &[1, 2]) == refused_weighing(5, 0));
+        b.check("writing, 5 before 17", wrote(&held, 3) == (5, 0, vec![9; 3]));
+        for lengths in [[0; 3], [1; 3], [1, 2, 3], [4097; 3]].iter() {
+            let code = |run: &Run, lent| shift_code(&held, run, *lengths, lent, 999);
+            b.check("shift, 15 first", code(&strange, 31) == 15);
+            b.check("shift, 5 before 12", code(&strange, 32) == 5);
+            b.check("shift, 5 before 18 and 11", code(&run_a(), 32) == 5);
+        }
+        b.check("key, 5 before 12", key_codes(&held, &strange) == (5, 5));
+        b.check("key, 5", key_codes(&held, &with_mark(&run_a(), 1)) == (5, 5));
+    }
+    // In edition 2 the numbers behind the chart's are the same as in edition 1.
+    for byte in [1, 2].iter() {
+        let held = in_edition(&held_a(), *byte);
+        let mut outputs = vec![8; 32];
+        b.check("then 12", cycle(&held, &strange, 999, 1, &mut outputs).code == 12);
+        b.check("then 11", cycle(&held, &run_a(), 999, 1, &mut outputs).code == 11);
+        b.check("tally, then 12", tally(&held, &strange).code == 12);
+        b.check("weighing, then 13", weighing(&held, &[1]) == refused_weighing(13, 0));
+        b.check("weighing, then 14", weighing(&held, &[1, 2]) == refused_weighing(14, 0));
+        b.check("shift, then 12", shift_code(&held, &strange, [1, 2, 3], 32, 999) == 12);
+        b.check("shift, then 18", shift_code(&held, &run_a(), [1, 2, 3], 32, 999) == 18);
+        b.check("shift, then 11", shift_code(&held, &run_a(), [1; 3], 32, 999) == 11);
+        b.check("key, then 12", key_codes(&held, &strange) == (12, 12));
+        b.check("mark, then 12", key_codes(&held, &with_mark(&run_a(), 2)) == (12, 12));
+    }
+}
+
+// Request (viii): "request (i) holds as it reads": "Reading what was written gives the same chart
+// as far as its counts reach, and writing what was read gives the same bytes."; "17 when the lent
+// bytes are fewer than the chart's length"; request (viii): "A chart then has at most 6,441 bytes."
+fn check_edition_writing(b: &mut Bench) {
+    let first = chart_a_bytes().get(..148).unwrap_or(&[]).to_vec();
+    let by_hand = [first, vec![1, 0, 6, 0, 2], vec![0, 0, 0, 0]].concat();
+    let held = in_edition(&held_a(), 2);
+    b.check("by hand as by records", by_hand == chart_a_second() && by_hand.len() == 157);
+    b.check("edition 2 written", wrote(&held, 157) == (0, 157, by_hand.clone()));
+    let longer = [chart_a_bytes(), vec![9; 5]].concat();
+    b.check("edition 1 as before", wrote(&held_a(), 157) == (0, 152, longer));
+    b.check("edition 1, 152 bytes", wrote(&held_a(), 152) == (0, 152, chart_a_bytes()));
+    b.check("bytes behind it stay", wrote(&held, 159) == (0, 157, [by_hand, vec![9; 2]].concat()));
+    for lent in [0, 4, 151, 152, 153, 156].iter() {
+        b.check("edition 2, 17", wrote(&held, *lent) == (17, 0, vec![9; *lent]));
+    }
+    b.check("junk beside edition 2", wrote(&in_edition(&held_a_with_junk(), 2), 157).0 == 0);
+    let junk = wrote(&in_edition(&held_a_with_junk(), 2), 157).2;
+    b.check("junk is not written", junk == chart_a_second());
+    let small = held_of(&[step(1), edition(2)]);
+    let bytes = vec![1, 0, 1, 0, 1, 1, 0, 6, 0, 2, 0, 0, 0, 0];
+    b.check("one step in edition 2", wrote(&small, 14) == (0, 14, bytes));
+    b.check("one step, 13 bytes", wrote(&small, 13) == (17, 0, vec![9; 13]));
+    let most = [
+        step(1).repeat(64),
+        action(31, -1).repeat(32),
+        transition(1, 2, 1 << 63, 0, 86_400_000).repeat(64),
+        block(63, 31, 10, 0).repeat(256),
+        case(63, 63, 1).repeat(64),
+        edition(2),
+    ];
+    let full = [most.concat(), end()].concat();
+    b.check("fullest chart written", wrote(&held_of(&most), 6441) == (0, 6441, full));
+    b.check("one byte less", wrote(&held_of(&most), 6440) == (17, 0, vec![9; 6440]));
+    // Both round trips, in both editions, on charts by lot.
+    let mut lot = 3;
+    for _ in 0..60 {
+        let first = held_by_lot(&mut lot);
+        b.check("by lot, edition 1", first.tables.edition == 1);
+        for byte in [1, 2].iter() {
+            let held = in_edition(&first, *byte);
+            let (code, length, bytes) = wrote(&held, 1000);
+            let file = bytes.get(..length as usize).unwrap_or(&[]).to_vec();
+            let reading = read_chart(&file);
+            b.check("written by lot", code == 0 && reading.code == 0);
+            b.check("read what was written", reading.chart == held.tables);
+            let again = wrote(&hold(&reading.chart), file.len());
+            b.check("write what was read", again == (0, length, file.clone()));
+            let longer = wrote(&first, 1000).1 + if *byte == 2 { 5 } else { 0 };
+            b.check("five bytes more", length == longer);
+        }
+    }
+    let files = [
+        vec![step(1)],
+        vec![step(1), case(0, 0, 1)],
+        vec![step(0), step(1), transition(1, 2, 1, 2, 3)],
+        vec![step(1), action(3, -9), block(0, 0, 7, 8)],
+    ];
+    for records in files.iter() {
+        for last in [vec![], edition(2)].iter() {
+            let file = [records.concat(), last.clone(), end()].concat();
+            let held = hold(&read_chart(&file).chart);
+            let same = (0, file.len() as u64, file.clone());
+            b.check("the same bytes", wrote(&held, file.len()) == same);
+        }
+    }
+}
+
+// Request (viii): "targets are not tested, and a step both left and entered stays active"; "State
+// the choosing once, with the target test as the only difference." (each chart in both editions:
+// the transitions taken and the steps then active)
+fn check_edition_taken(b: &mut Bench) {
+    let both = |initial: &[u8], moves: &[Vec<u8>], cycles: &[(u32, u32)]| {
+        let of = |held: &Held| {
+            let (code, taken, active, _) = seen(held, 0, cycles);
+            (code, taken, active)
+        };
+        (of(&held_steps(initial, moves)), of(&second_steps(initial, moves)))
+    };
+    let go = |sources, targets| transition(sources, targets, 0, 0, 0);
+    let once = [(1, 0)];
+    let twice = [(1, 0), (2, 0)];
+    let moves = [go(1, 2)];
+    b.check("occupied", both(&[1, 1], &moves, &once) == ((0, 0, 3), (0, 1, 2)));
+    b.check("occupied, then", both(&[1, 1], &moves, &twice) == ((0, 0, 3), (0, 0, 2)));
+    b.check("free", both(&[1, 0], &moves, &once) == ((0, 1, 2), (0, 1, 2)));
+    let moves = [go(1, 6)];
+    b.check("one of two occupied", both(&[1, 0, 1], &moves, &once) == ((0, 0, 5), (0, 1, 6)));
+    b.check("both occupied", both(&[1, 1, 1], &moves, &once) == ((0, 0, 7), (0, 1, 6)));
+    let moves = [go(1, 4), go(2, 4)];
+    b.check("claimed", both(&[1, 1, 0], &moves, &once) == ((0, 1, 6), (0, 3, 4)));
+    b.check("claimed, then", both(&[1, 1, 0], &moves, &twice) == ((0, 0, 6), (0, 0, 4)));
+    b.check("claimed and occupied", both(&[1, 1, 1], &moves, &once) == ((0, 0, 7), (0, 3, 4)));
+    let moves = [go(1, 4), go(2, 1)];
+    b.check("left, then entered", both(&[1, 1, 0], &moves, &once) == ((0, 1, 6), (0, 3, 5)));
+    let moves = [go(2, 1), go(1, 4)];
+    b.check("entered, then left", both(&[1, 1, 0], &moves, &once) == ((0, 2, 6), (0, 3, 5)));
+    let moves = [go(1, 2), go(2, 1)];
+    b.check("two change places", both(&[1, 1], &moves, &once) == ((0, 0, 3), (0, 3, 3)));
+    b.check("and again", both(&[1, 1], &moves, &twice) == ((0, 0, 3), (0, 3, 3)));
+    b.check("one goes alone", both(&[1, 0], &moves, &twice) == ((0, 2, 1), (0, 2, 1)));
+    let moves = [go(1, 2), go(2, 4), go(4, 1)];
+    b.check("a full ring", both(&[1, 1, 1], &moves, &once) == ((0, 0, 7), (0, 7, 7)));
+    b.check("a ring with a gap", both(&[1, 1, 0], &moves, &once) == ((0, 2, 5), (0, 3, 6)));
+    let moves = [go(1, 2), go(2, 4)];
+    b.check("a chain, both active", both(&[1, 1, 0], &moves, &once) == ((0, 2, 5), (0, 3, 6)));
+    // "Testing a source against the half-updated step set: a chain of steps then runs through in
+    // one cycle." (nor does it in edition 2)
+    b.check("a chain, one active", both(&[1, 0, 0], &moves, &once) == ((0, 1, 2), (0, 1, 2)));
+    b.check("a chain, the next", both(&[1, 0, 0], &moves, &twice) == ((0, 2, 4), (0, 2, 4)));
+    // The tests of sources, signals and waits stay.
+    let moves = [go(1, 2), go(1, 4)];
+    b.check("a source used", both(&[1, 0, 0], &moves, &once) == ((0, 1, 2), (0, 1, 2)));
+    b.check("used only if taken", both(&[1, 1, 0], &moves, &once) == ((0, 2, 6), (0, 1, 2)));
+    let moves = [go(1, 4), go(3, 8)];
+    b.check("one source used", both(&[1, 1, 0, 0], &moves, &once) == ((0, 1, 6), (0, 1, 6)));
+    b.check("one source missing", both(&[0, 1, 1, 0], &moves, &once) == ((0, 0, 6), (0, 0, 6)));
+    let moves = [transition(1, 2, 1, 2, 10)];
+    for (clock, inputs) in [(9, 1), (10, 0), (10, 3), (10, 2), (9, 0)].iter() {
+        let cycles = [(*clock, *inputs)];
+        b.check("signal and wait", both(&[1, 1], &moves, &cycles) == ((0, 0, 3), (0, 0, 3)));
+    }
+    b.check("neither", both(&[1, 1], &moves, &[(10, 1)]) == ((0, 0, 3), (0, 1, 2)));
+    // A fork and a join over occupied steps.
+    let moves = [go(1, 6), go(6, 1)];
+    b.check("fork and join", both(&[1, 1, 1], &moves, &once) == ((0, 0, 7), (0, 3, 7)));
+    b.check("a join into it", both(&[1, 1, 1], &[go(6, 1)], &once) == ((0, 0, 7), (0, 1, 1)));
+    // 63 steps into one, and 64 in a ring.
+    let moves: Vec<Vec<u8>> = (0..63).map(|k| go(1 << k, 1 << 63)).collect();
+    let initial = [vec![1; 63], vec![0]].concat();
+    let wanted = ((0, 1, u64::MAX - 1), (0, u64::MAX >> 1, 1 << 63));
+    b.check("63 into one", both(&initial, &moves, &once) == wanted);
+    let moves: Vec<Vec<u8>> = (0..64).map(|k: u32| go(1 << k, 1 << ((k + 1) % 64))).collect();
+    let wanted = ((0, 0, u64::MAX), (0, u64::MAX, u64::MAX));
+    b.check("a ring of 64", both(&[1; 64], &moves, &once) == wanted);
+    // "signal 32+k is the activity of action k as the previous call left it" (in edition 2 too)
+    let records = [step(1), step(1), action(0, 1), transition(1, 2, 1 << 32, 0, 0)].concat();
+    let held = held_of(&[records, block(0, 0, 4, 10), edition(2)]);
+    b.check("not active before", seen(&held, 0, &[(10, 0)]) == (0, 0, 3, 1));
+    b.check("active before", seen(&held, 0, &[(10, 0), (11, 0)]) == (0, 1, 2, 0));
+}
+
+// The counters of the first so many steps after a start at 0 and cycles.
+fn counters_after(held: &Held, cycles: &[(u32, u32)], count: usize) -> Vec<u32> {
+    let (answer, _) = played(held, 0, cycles);
+    answer.run.step_counters.get(..count).unwrap_or(&[]).to_vec()
+}
+
+// Request (viii): "In edition 2 a step counts as entered if it is a target and was inactive or
+// left; then its counter is 0, otherwise it runs on."
+fn check_edition_counters(b: &mut Bench) {
+    let on = |sources, targets, signal| transition(sources, targets, signal, 0, 0);
+    let held = second_steps(&[1, 1], &[on(1, 2, 1)]);
+    b.check("before", counters_after(&held, &[(30, 0)], 2) == [30, 30]);
+    b.check("occupied runs on", counters_after(&held, &[(30, 0), (50, 1)], 2) == [0, 50]);
+    b.check("and on", counters_after(&held, &[(30, 0), (50, 1), (57, 1)], 2) == [0, 57]);
+    b.check("occupied at once", counters_after(&held, &[(0, 1)], 2) == [0, 0]);
+    let held = second_steps(&[1, 0], &[on(1, 2, 1)]);
+    b.check("inactive has 0", counters_after(&held, &[(30, 0), (50, 1)], 2) == [0, 0]);
+    b.check("and runs then", counters_after(&held, &[(30, 0), (50, 1), (57, 1)], 2) == [0, 7]);
+    let held = second_steps(&[1, 1, 0], &[on(1, 4, 1), on(2, 4, 1)]);
+    b.check("claimed has 0", counters_after(&held, &[(30, 0), (50, 1)], 3) == [0, 0, 0]);
+    b.check("claimed runs", counters_after(&held, &[(50, 1), (57, 1)], 3) == [0, 0, 7]);
+    for turned in [false, true].iter() {
+        let mut moves = [on(1, 4, 1), on(2, 1, 1)];
+        if *turned {
+            moves.reverse();
+        }
+        let held = second_steps(&[1, 1, 0], &moves);
+        b.check("left has 0", counters_after(&held, &[(30, 0), (50, 1)], 3) == [0, 0, 0]);
+        let later = counters_after(&held, &[(30, 0), (50, 1), (57, 0)], 3);
+        b.check("left and entered runs", later == [7, 0, 7]);
+    }
+    let held = second_steps(&[1, 1], &[on(1, 2, 1), on(2, 1, 1)]);
+    b.check("changed places", counters_after(&held, &[(30, 0), (50, 1)], 2) == [0, 0]);
+    b.check("and run", counters_after(&held, &[(30, 1), (50, 0)], 2) == [20, 20]);
+    let held = second_steps(&[1, 0, 1], &[on(1, 6, 1)]);
+    b.check("a fork, one occupied", counters_after(&held, &[(30, 0), (50, 1)], 3) == [0, 0, 50]);
+    // Occupied by two, and both occupied and left by a third: one target, left, has 0.
+    let held = second_steps(&[1, 1, 1], &[on(1, 4, 1), on(2, 4, 1)]);
+    b.check("occupied and claimed", counters_after(&held, &[(30, 0), (50, 1)], 3) == [0, 0, 50]);
+    let held = second_steps(&[1, 1, 1, 0], &[on(1, 4, 1), on(2, 4, 1), on(4, 8, 1)]);
+    let after = counters_after(&held, &[(30, 0), (50, 1)], 4);
+    b.check("occupied, claimed and left", after == [0, 0, 0, 0]);
+    b.check("it stays active", seen(&held, 0, &[(30, 0), (50, 1)]) == (0, 7, 12, 0));
+    // The steps of no transition run on, in both editions.
+    let held = second_steps(&[1, 1, 1], &[on(1, 2, 1)]);
+    b.check("a bystander", counters_after(&held, &[(30, 0), (50, 1)], 3) == [0, 50, 50]);
+    // "... stopping at 86,400,000" (a counter that runs on)
+    let held = second_steps(&[1, 1], &[on(1, 2, 1)]);
+    let mut run = played(&held, 0, &[]).0.run;
+    put(&mut run.step_counters, 1, 86_399_999);
+    let answer = cycle(&held, &run, 2, 1, &mut [0; 32]);
+    b.check("runs on to the cap", word_of(&answer.taken) == 1);
+    b.check("and stops there", at(&answer.run.step_counters, 1) == 86_400_000);
+    // "each source's counter has reached the wait" (of a step whose counter ran on, and of one that
+    // was left and entered at 60)
+    let held = second_steps(&[1, 1, 0], &[on(1, 2, 1), transition(2, 4, 2, 0, 100)]);
+    let at_99 = seen(&held, 0, &[(60, 1), (99, 2)]);
+    b.check("the wait of one that ran on, 99", at_99 == (0, 0, 2, 0));
+    let at_100 = seen(&held, 0, &[(60, 1), (100, 2)]);
+    b.check("the wait of one that ran on, 100", at_100 == (0, 2, 4, 0));
+    let moves = [on(1, 2, 1), on(2, 4, 1), transition(2, 4, 2, 0, 100)];
+    let held = second_steps(&[1, 1, 0], &moves);
+    b.check("left and entered at 60", seen(&held, 0, &[(60, 1)]) == (0, 3, 6, 0));
+    let at_159 = seen(&held, 0, &[(60, 1), (159, 2)]);
+    b.check("the wait of one entered, 99", at_159 == (0, 0, 6, 0));
+    let at_160 = seen(&held, 0, &[(60, 1), (160, 2)]);
+    b.check("the wait of one entered, 100", at_160 == (0, 4, 4, 0));
+}
+
+// "or P1 and the step was entered; or P0 and the step was left"; request (ii): "P is now active
+// only in the call that enters the step, like P1."; request (viii): "a step counts as entered if it
+// is a target and was inactive or left" (actions 0 P, 1 P1, 2 P0 and 3 N, all of one step)
+fn check_edition_pulses(b: &mut Bench) {
+    let actions: Vec<Vec<u8>> = (0..4).map(|k| action(k, 1)).collect();
+    let of_step = |k| {
+        [block(k, 0, 5, 0), block(k, 1, 9, 0), block(k, 2, 10, 0), block(k, 3, 0, 0)].concat()
+    };
+    let moves = [transition(1, 4, 1, 0, 0), transition(2, 1, 2, 0, 0)].concat();
+    let steps = [step(1), step(1), step(0)].concat();
+    let records = [steps.clone(), actions.concat(), moves, of_step(0)].concat();
+    let first = held_of(&[records.clone()]);
+    let held = held_of(&[records, edition(2)]);
+    b.check("start", seen(&held, 0, &[]) == (0, 0, 3, 11));
+    b.check("start, edition 1", seen(&first, 0, &[]) == (0, 0, 3, 11));
+    b.check("nothing moves", seen(&held, 0, &[(0, 0)]) == (0, 0, 3, 8));
+    b.check("left alone", seen(&held, 0, &[(0, 1)]) == (0, 1, 6, 4));
+    b.check("a target, active and not left", seen(&held, 0, &[(0, 2)]) == (0, 2, 1, 8));
+    b.check("left and entered", seen(&held, 0, &[(0, 3)]) == (0, 3, 5, 15));
+    b.check("and then over", seen(&held, 0, &[(0, 3), (0, 0)]) == (0, 0, 5, 8));
+    b.check("inactive, entered", seen(&held, 0, &[(0, 1), (0, 2)]) == (0, 2, 5, 11));
+    b.check("edition 1, a target occupied", seen(&first, 0, &[(0, 2)]) == (0, 0, 3, 8));
+    b.check("edition 1, left alone", seen(&first, 0, &[(0, 3)]) == (0, 1, 6, 4));
+    b.check("edition 1, entered", seen(&first, 0, &[(0, 1), (0, 2)]) == (0, 2, 5, 11));
+    // The outputs of the step left and entered: each action has its own, with the value 1.
+    let (_, outputs) = played(&held, 0, &[(0, 3)]);
+    b.check("outputs", outputs == [vec![1; 4], vec![0; 28], vec![5; 2]].concat());
+    let (_, outputs) = played(&held, 0, &[(0, 2)]);
+    let one = [vec![0; 3], vec![1], vec![0; 28], vec![5; 2]].concat();
+    b.check("outputs, not entered", outputs == one);
+    // Entered by two at once, and occupied by two at once.
+    let moves = [transition(1, 4, 1, 0, 0), transition(2, 4, 1, 0, 0)].concat();
+    let records = [actions.concat(), moves, of_step(2), edition(2)].concat();
+    let held = held_of(&[steps, records.clone()]);
+    b.check("entered by two", seen(&held, 0, &[(0, 1)]) == (0, 3, 4, 11));
+    let held = held_of(&[step(1).repeat(3), records]);
+    b.check("occupied, by two", seen(&held, 0, &[(0, 0), (0, 1)]) == (0, 3, 4, 8));
+    // Both steps that change places are left and entered: P0 and P1 of each.
+    let blocks = [block(0, 0, 9, 0), block(0, 1, 10, 0), block(1, 2, 9, 0), block(1, 3, 10, 0)];
+    let moves = [transition(1, 2, 1, 0, 0), transition(2, 1, 1, 0, 0)].concat();
+    let held = held_of(&[step(1).repeat(2), actions.concat(), moves, blocks.concat(), edition(2)]);
+    b.check("changing places", seen(&held, 0, &[(0, 0), (0, 1)]) == (0, 3, 3, 15));
+    b.check("not changing", seen(&held, 0, &[(0, 0)]) == (0, 0, 3, 0));
+    // "A reset action is inactive." (a pulse of a step both left and entered that also resets it)
+    let blocks = [block(0, 0, 9, 0), block(0, 0, 10, 0), block(1, 0, 1, 0)].concat();
+    let moves = [transition(1, 2, 1, 0, 0), transition(2, 1, 1, 0, 0)].concat();
+    let held = held_of(&[step(1).repeat(2), action(0, 1), moves, blocks, edition(2)]);
+    b.check("reset by the other", seen(&held, 0, &[(0, 1)]) == (0, 3, 3, 0));
+}
+
+// "Actions, from the steps now active." with request (viii): "then its counter is 0, otherwise it
+// runs on" (each qualifier with a time, on a step both left and entered, and on a target that was
+// active and not left; stored, latch and reset)
+fn check_edition_actions(b: &mut Bench) {
+    // Steps 0 and 1 change places on input 0.
+    let places = |q, duration| {
+        let moves = [transition(1, 2, 1, 0, 0), transition(2, 1, 1, 0, 0)].concat();
+        let steps = step(1).repeat(2);
+        held_of(&[steps, action(0, 1), moves, block(0, 0, q, duration), edition(2)])
+    };
+    // Step 0 goes to 1, which is occupied, on input 0.
+    let occupied = |q, duration| {
+        let moves = transition(1, 2, 1, 0, 0);
+        let steps = step(1).repeat(2);
+        held_of(&[steps, action(0, 1), moves, block(1, 0, q, duration), edition(2)])
+    };
+    let word = |held: &Held, cycles: &[(u32, u32)]| seen(held, 0, cycles).3;
+    b.check("L over", word(&places(3, 100), &[(150, 0)]) == 0);
+    b.check("L again", word(&places(3, 100), &[(150, 0), (160, 1)]) == 1);
+    b.check("L again, 99", word(&places(3, 100), &[(150, 0), (160, 1), (259, 0)]) == 1);
+    b.check("L again, 100", word(&places(3, 100), &[(150, 0), (160, 1), (260, 0)]) == 0);
+    b.check("L not again, 99", word(&occupied(3, 100), &[(99, 1)]) == 1);
+    b.check("L not again, 100", word(&occupied(3, 100), &[(100, 1)]) == 0);
+    b.check("D reached", word(&places(4, 100), &[(150, 0)]) == 1);
+    b.check("D anew", word(&places(4, 100), &[(150, 0), (160, 1)]) == 0);
+    b.check("D anew, 99", word(&places(4, 100), &[(150, 0), (160, 1), (259, 0)]) == 0);
+    b.check("D anew, 100", word(&places(4, 100), &[(150, 0), (160, 1), (260, 0)]) == 1);
+    b.check("D not anew, 99", word(&occupied(4, 100), &[(99, 1)]) == 0);
+    b.check("D not anew, 100", word(&occupied(4, 100), &[(100, 1)]) == 1);
+    b.check("DS anew, just when it was due", word(&places(7, 100), &[(100, 1)]) == 0);
+    b.check("DS anew, 99", word(&places(7, 100), &[(99, 1), (198, 0)]) == 0);
+    b.check("DS anew, 100", word(&places(7, 100), &[(99, 1), (199, 0)]) == 1);
+    b.check("DS stored before", word(&places(7, 100), &[(100, 0), (101, 1)]) == 1);
+    b.check("DS not anew, 99", word(&occupied(7, 100), &[(99, 1)]) == 0);
+    b.check("DS not anew, 100", word(&occupied(7, 100), &[(100, 1)]) == 1);
+    b.check("N stays", word(&places(0, 0), &[(1, 1), (2, 1)]) == 1);
+    b.check("N stays, occupied", word(&occupied(0, 0), &[(1, 1)]) == 1);
+    // "Restarting SL when its step is entered again: only a reset clears the latch." The timer is
+    // the action's own and isn't handed over.
+    b.check("SL, 99", word(&places(8, 100), &[(50, 1), (99, 1)]) == 1);
+    b.check("SL, 100", word(&places(8, 100), &[(50, 1), (100, 1)]) == 0);
+    b.check("SD, 99", word(&places(6, 100), &[(50, 1), (99, 1)]) == 0);
+    b.check("SD, 100", word(&places(6, 100), &[(50, 1), (100, 1)]) == 1);
+    for q in [6, 8].iter() {
+        let run = played(&places(*q, 100), 0, &[(50, 1), (99, 1)]).0.run;
+        b.check("timer", at(&run.action_timers, 0) == 99 && at(&run.step_counters, 0) == 0);
+        let run = played(&occupied(*q, 100), 0, &[(50, 1), (99, 1)]).0.run;
+        b.check("timer, occupied", at(&run.action_timers, 0) == 99);
+        b.check("counter, occupied", at(&run.step_counters, 1) == 99);
+    }
+    // Step 0 has R, step 1 S; 0 goes to 2 on input 0, 1 goes to 0 on input 1.
+    let blocks = [block(0, 0, 1, 0), block(1, 0, 2, 0)].concat();
+    let moves = [transition(1, 4, 1, 0, 0), transition(2, 1, 2, 0, 0)].concat();
+    let steps = [step(1), step(1), step(0)].concat();
+    let held = held_of(&[steps, action(0, 1), moves, blocks, edition(2)]);
+    b.check("R over S", seen(&held, 0, &[]) == (0, 0, 3, 0));
+    b.check("R's step left", seen(&held, 0, &[(1, 1)]) == (0, 1, 6, 1));
+    b.check("R's step left and entered", seen(&held, 0, &[(1, 3)]) == (0, 3, 5, 0));
+    b.check("R's step a target", seen(&held, 0, &[(1, 2)]) == (0, 2, 1, 0));
+    b.check("R's step entered", seen(&held, 0, &[(1, 1), (2, 2)]) == (0, 2, 5, 0));
+    let run = played(&held, 0, &[(1, 1), (2, 2)]).0.run;
+    b.check("stored no more", run.stored.is_empty());
+    // S on a step both left and entered, and on one only left.
+    let moves = [transition(1, 4, 1, 0, 0), transition(2, 1, 2, 0, 0)].concat();
+    let steps = [step(1), step(1), step(0), step(1)].concat();
+    let more = transition(8, 16, 4, 0, 0);
+    let blocks = [block(0, 0, 2, 0), block(3, 0, 1, 0)].concat();
+    let records = [steps, step(0), action(0, 1), moves, more, blocks].concat();
+    let held = held_of(&[records, edition(2)]);
+    b.check("reset goes, S left and entered", seen(&held, 0, &[(1, 7)]) == (0, 7, 21, 1));
+    b.check("reset goes, S left", seen(&held, 0, &[(1, 5)]) == (0, 5, 22, 0));
+}
+
+// "For each case on a left step, the signal of this cycle is compared: equal sets its good mark,
+// different its bad mark." (a step both left and entered is left; a target that was active and not
+// left isn't)
+fn check_edition_cases(b: &mut Bench) {
+    let moves = [transition(1, 4, 1, 0, 0), transition(2, 1, 2, 0, 0)].concat();
+    let cases = [case(0, 0, 1), case(0, 0, 0), case(1, 1, 1), case(2, 0, 1)].concat();
+    let held = held_of(&[step(1), step(1), step(0), moves, cases, edition(2)]);
+    let marks = |cycles: &[(u32, u32)]| {
+        let (answer, _) = played(&held, 0, cycles);
+        (word_of(&answer.run.good), word_of(&answer.run.bad))
+    };
+    let counts = |cycles: &[(u32, u32)]| {
+        let answer = tally(&held, &played(&held, 0, cycles).0.run);
+        (answer.code, answer.passed, answer.failed, answer.notrun)
+    };
+    b.check("marks of a start", marks(&[]) == (0, 0) && counts(&[]) == (0, 0, 0, 4));
+    b.check("marks, nothing moves", marks(&[(1, 0)]) == (0, 0));
+    b.check("marks, left", marks(&[(1, 1)]) == (1, 2));
+    b.check("marks, a target not left", marks(&[(1, 2)]) == (4, 0));
+    b.check("marks, left and entered", marks(&[(1, 3)]) == (5, 2));
+    b.check("tally, left and entered", counts(&[(1, 3)]) == (0, 2, 1, 1));
+    b.check("tally, a target not left", counts(&[(1, 2)]) == (0, 1, 0, 3));
+    b.check("marks stay", marks(&[(1, 3), (2, 0)]) == (5, 2));
+    let first = in_edition(&held, 1);
+    let (answer, _) = played(&first, 0, &[(1, 3)]);
+    b.check("edition 1, left alone", word_of(&answer.run.good) == 1);
+    b.check("edition 1, bad", word_of(&answer.run.bad) == 2);
+    // Step 0 is left and entered twice, first with input 1 on and then off: both marks.
+    let moves = [transition(1, 2, 1, 0, 0), transition(2, 1, 1, 0, 0)].concat();
+    let held = held_of(&[step(1), step(1), moves, case(0, 1, 1), edition(2)]);
+    let (answer, _) = played(&held, 0, &[(1, 3), (2, 1)]);
+    b.check("both marks", word_of(&answer.run.good) == 1 && word_of(&answer.run.bad) == 1);
+    b.check("which fails", tally(&held, &answer.run).failed == 1);
+}
+
+// Request (vi) in edition 2: "a source not active; a source used by an earlier one; a signal; a
+// wait", and since "targets are not tested" neither "a target occupied" nor "a target claimed";
+// ""Taken" is given exactly where it was" (taken)
+fn check_edition_reasons(b: &mut Bench) {
+    for word in 0..64 {
+        let why = set_of(word << 1);
+        let first = why.iter().copied().find(|reason| *reason < 5).unwrap_or(0);
+        let digits = format!("0{}", first);
+        for signal in [(1, 0), (0, 2), (3, 0), (0, 3), (1, 2)].iter() {
+            let held = in_edition(&held_back(&why, *signal), 2);
+            b.check("the chart of these reasons", held_code(&held) == 0);
+            b.waits("the first of these reasons", &held, &[(9, 2)], &digits);
+        }
+    }
+    let go = |sources, targets| transition(sources, targets, 0, 0, 0);
+    b.waits("no 5", &second_steps(&[1, 1], &[go(1, 2)]), &[(1, 0)], "0");
+    b.waits("then 1", &second_steps(&[1, 1], &[go(1, 2)]), &[(1, 0), (2, 0)], "1");
+    let held = second_steps(&[1, 1, 0], &[go(1, 4), go(2, 4)]);
+    b.waits("no 6", &held, &[(1, 0)], "00");
+    b.waits("then 11", &held, &[(1, 0), (2, 0)], "11");
+    let moves = [go(1, 2), go(1, 4)];
+    b.waits("2, where edition 1 has 50", &second_steps(&[1, 1, 0], &moves), &[(1, 0)], "02");
+    b.waits("edition 1 has 50", &held_steps(&[1, 1, 0], &moves), &[(1, 0)], "50");
+    let held = second_steps(&[1, 1], &[transition(1, 2, 1, 0, 10)]);
+    b.waits("3 before 4", &held, &[(9, 0)], "3");
+    b.waits("4", &held, &[(9, 1)], "4");
+    b.waits("3", &held, &[(10, 0)], "3");
+    b.waits("taken", &held, &[(10, 1)], "0");
+    let held = second_steps(&[1, 1], &vec![transition(1, 2, 1, 0, 0); 64]);
+    b.waits("64 transitions", &held, &[(1, 0)], &"3".repeat(64));
+    b.waits("64, one taken", &held, &[(1, 1)], &("0".to_string() + &"2".repeat(63)));
+    b.waits("no transitions", &second_steps(&[1], &[]), &[(1, 0)], "");
+    b.waits("chart A in edition 2", &in_edition(&held_a_with_junk(), 2), &[(1, 0)], "31");
+    // "Reasons of a start, of a refused call and beyond the last transition are 0."
+    let held = second_steps(&[1, 0], &[transition(2, 1, 0, 0, 0)]);
+    let mut outputs = vec![0; 32];
+    let began = start(&held, 5, &mut outputs);
+    b.check("a start", began.code == 0 && began.reasons == reasons_by_hand(""));
+    let refused = cycle(&held, &began.run, 4, 0, &mut outputs);
+    b.check("a refused cycle", refused.code == 11 && refused.reasons == reasons_by_hand(""));
+    let answer = cycle(&held, &began.run, 5, 0, &mut outputs);
+    b.check("an accepted one", answer.code == 0 && answer.reasons == reasons_by_hand("1"));
+}
+
+// Request (vii) in edition 2: "In a cycle under hold no transition is taken and step counters stand
+// still, while action timers run on. Actions and outputs are worked out as usual, with nothing
+// entered or left."; "reason 7 ... comes first"
+fn check_edition_hold(b: &mut Bench) {
+    let (set, clear) = (Deed::Set, Deed::Clear);
+    let go = |clock, inputs| Deed::Cycle(clock, inputs);
+    let actions: Vec<Vec<u8>> = (0..5).map(|k| action(k, 1)).collect();
+    let pulses = [block(0, 0, 5, 0), block(0, 1, 9, 0), block(0, 2, 10, 0)].concat();
+    let others = [block(0, 3, 6, 100), block(0, 4, 3, 100)].concat();
+    let moves = [transition(1, 2, 1, 0, 0), transition(2, 1, 1, 0, 0)].concat();
+    let steps = step(1).repeat(2);
+    let cases = case(0, 0, 1);
+    let held = held_of(&[steps, actions.concat(), moves, pulses, others, cases, edition(2)]);
+    b.check("before the key", keyed_seen(&held, 0, &[]) == (0, 0, 3, 19));
+    b.check("set", keyed_seen(&held, 0, &[set]) == (0, 0, 3, 19));
+    b.check("held", keyed_seen(&held, 0, &[set, go(50, 1)]) == (0, 0, 3, 16));
+    b.check("held, SD at 99", keyed_seen(&held, 0, &[set, go(99, 1)]) == (0, 0, 3, 16));
+    b.check("held, SD at 100", keyed_seen(&held, 0, &[set, go(100, 1)]) == (0, 0, 3, 24));
+    let (answer, outputs) = keyed(&held, 0, &[go(30, 0), set, go(100, 1)]);
+    b.check("held, counters", answer.run.step_counters.get(..2) == Some(&[30, 30][..]));
+    b.check("held, timer", at(&answer.run.action_timers, 3) == 100);
+    b.check("held, reasons", answer.reasons == reasons_by_hand("77"));
+    b.check("held, second line", second_line(&held, &answer) == "77\n");
+    b.check("held, no marks", answer.run.good.is_empty() && answer.run.bad.is_empty());
+    b.check("held, mark", answer.run.hold_mark == 1 && answer.run.clock == 100);
+    let written = [vec![0; 3], vec![1; 2], vec![0; 27], vec![5; 2]].concat();
+    b.check("held, outputs", outputs == written);
+    let deeds = [go(30, 0), set, go(100, 1), clear, go(107, 1)];
+    b.check("cleared, they move", keyed_seen(&held, 0, &deeds) == (0, 3, 3, 31));
+    let (answer, _) = keyed(&held, 0, &deeds);
+    b.check("cleared, counters", answer.run.step_counters.get(..2) == Some(&[0, 0][..]));
+    b.check("cleared, mark of the case", word_of(&answer.run.good) == 1);
+    let deeds = [go(30, 0), set, go(100, 1), clear, go(107, 0)];
+    let (answer, _) = keyed(&held, 0, &deeds);
+    b.check("cleared, counters run on", answer.run.step_counters.get(..2) == Some(&[37, 37][..]));
+    b.check("cleared, no 7", answer.reasons == reasons_by_hand("33"));
+    let refused = cycle(&held, &keyed(&held, 5, &[set]).0.run, 4, 1, &mut [0; 32]);
+    b.check("held, 11", refused.code == 11 && refused.reasons == reasons_by_hand(""));
+    for mark in 0..=255 {
+        let run = with_mark(&played(&held, 0, &[]).0.run, mark);
+        let wanted = if mark < 2 { 0 } else { 12 };
+        b.check("mark, cycle", cycle(&held, &run, 0, 0, &mut [0; 32]).code == wanted);
+        b.check("mark, set", set_hold(&held, &run).code == wanted);
+        b.check("mark, clear", clear_hold(&held, &run).code == wanted);
+        b.check("mark, tally", tally(&held, &run).code == wanted);
+    }
+    for word in 0..64 {
+        let held = in_edition(&held_back(&set_of(word << 1), (1, 2)), 2);
+        let (answer, _) = keyed(&held, 0, &[set, go(9, 2)]);
+        b.check("7 comes first", answer.code == 0 && answer.reasons == reasons_by_hand("77"));
+        b.check("and takes nothing", answer.taken.is_empty());
+    }
+}
+
+// Request (iii) in edition 2: "The result equals the calls made singly." (by hand, and then every
+// beginning of the forty cycles, with the hold key and with a refused cycle)
+fn check_edition_shift(b: &mut Bench) {
+    let moves = [transition(1, 2, 1, 0, 0), transition(2, 1, 1, 0, 0)].concat();
+    let blocks = [block(0, 0, 9, 0), block(0, 1, 10, 0), block(0, 2, 4, 20)].concat();
+    let actions: Vec<Vec<u8>> = (0..3).map(|k| action(k, 7)).collect();
+    let held = held_of(&[step(1).repeat(2), actions.concat(), moves, blocks, edition(2)]);
+    let began = played(&held, 0, &[]).0.run;
+    let cycles = [(10, 0), (20, 0), (30, 1), (49, 0), (50, 0), (60, 1)];
+    let (code, accepted, run, words, outputs) = shifted(&held, &began, &cycles);
+    b.check("six cycles", (code, accepted) == (0, 6) && words == vec![0, 4, 3, 0, 4, 3]);
+    b.check("six cycles, run", word_of(&run.active) == 3 && run.clock == 60);
+    b.check("six cycles, outputs", outputs == [vec![7; 2], vec![0; 30], vec![5; 2]].concat());
+    let first = in_edition(&held, 1);
+    let words = shifted(&first, &played(&first, 0, &[]).0.run, &cycles).3;
+    b.check("the same in edition 1", words == vec![0, 4, 4, 4, 4, 4]);
+    let cycles = [(10, 0), (30, 1), (29, 1), (50, 0)];
+    let (code, accepted, run, words, _) = shifted(&held, &began, &cycles);
+    b.check("11 at its place", (code, accepted, run.clock) == (11, 2, 30));
+    b.check("11, words", words == vec![0, 3, u64::MAX - 2, u64::MAX - 3]);
+    b.check("11, run", run == played(&held, 0, &[(10, 0), (30, 1)]).0.run);
+    let mut differ = 0;
+    let mut lot = 5;
+    for k in 0..40 {
+        let first = if k == 0 { held_of_all() } else { held_by_lot(&mut lot) };
+        let held = in_edition(&first, 2);
+        let cycles = cycles_of_all();
+        let clock = 4_294_967_000;
+        let began = played(&held, clock, &[]).0.run;
+        let whole = shifted(&held, &began, &cycles);
+        b.check("whole", whole == singly(&held, clock, &cycles, 40, 0));
+        let (head, rest) = cycles.split_at(k);
+        let answer = shifted(&held, &began, head);
+        b.check("a beginning", answer == singly(&held, clock, head, k, 0));
+        let rest_of = shifted(&held, &answer.2, rest);
+        b.check("and the rest", rest_of.2 == whole.2 && rest_of.4 == whole.4);
+        let key = set_hold(&held, &answer.2).run;
+        let rest_held = shifted(&held, &key, rest);
+        b.check("the rest under hold", rest_held == singly_from(&held, &key, rest));
+        let mut refused = cycles.clone();
+        put(&mut refused, k, (answer.2.clock.wrapping_sub(1), 7));
+        let stopped = shifted(&held, &began, &refused);
+        b.check("refused at its place", stopped == singly(&held, clock, &refused, k, 11));
+        let before = played(&first, clock, &[]).0.run;
+        if shifted(&first, &before, &cycles) != whole {
+            differ += 1;
+        }
+    }
+    b.check("the editions differ", differ > 10);
+}
+
+// Request (viii): the start, the tally, the weighing and the key say nothing of the edition: each
+// answers in edition 2 what it answers in edition 1. ("Start makes the initial steps active and
+// entered, none left"; "The weighing adds unsigned 16-bit weights over sources, targets and initial
+// steps")
+fn check_edition_same(b: &mut Bench) {
+    let mut lot = 11;
+    for _ in 0..100 {
+        let first = held_by_lot(&mut lot);
+        let second = in_edition(&first, 2);
+        let (one, outputs_one) = played(&first, 77, &[]);
+        let (two, outputs_two) = played(&second, 77, &[]);
+        b.check("start", (one.code, two.code) == (0, 0) && one.run == two.run);
+        b.check("start, outputs", outputs_one == outputs_two && two.taken.is_empty());
+        let mut run = one.run;
+        run.good = set_of(next_lot(&mut lot) % 16);
+        run.bad = set_of(next_lot(&mut lot) % 16);
+        b.check("tally", tally(&first, &run) == tally(&second, &run));
+        let weights: Vec<u16> = (0..6).map(|_| (next_lot(&mut lot) % 2) as u16).collect();
+        b.check("weighing", weighing(&first, &weights) == weighing(&second, &weights));
+        b.check("set", set_hold(&first, &run).run == set_hold(&second, &run).run);
+        let key = with_mark(&run, 1);
+        b.check("clear", clear_hold(&first, &key).run == clear_hold(&second, &key).run);
+        let held_cycle = |held: &Held| cycle(held, &key, 90, 7, &mut [0; 32]);
+        let (one, two) = (held_cycle(&first), held_cycle(&second));
+        b.check("under hold", one.run == two.run && one.reasons == two.reasons);
+    }
+    let fork = second_steps(&[1, 0, 0], &[transition(1, 6, 0, 0, 0)]);
+    let total = Weighing { code: 0, transition: 0, total: 2 };
+    b.check("fork 2,1,1", weighing(&fork, &[2, 1, 1]) == total);
+    b.check("fork 2,1,2", weighing(&fork, &[2, 1, 2]) == refused_weighing(14, 0));
+    // Chart A never finds a target occupied or claimed: the same run in both editions.
+    let cycles = [(1010, 1), (1509, 2), (1510, 2), (1511, 0), (1520, 3)];
+    for count in 0..cycles.len() + 1 {
+        let some = cycles.get(..count).unwrap_or(&[]);
+        let (one, outputs_one) = played(&held_a(), 1000, some);
+        let (two, outputs_two) = played(&in_edition(&held_a(), 2), 1000, some);
+        b.check("chart A", one.run == two.run && one.taken == two.taken);
+        b.check("chart A, outputs", one.reasons == two.reasons && outputs_one == outputs_two);
+    }
+}
+
+// One cycle without hold by another way: all sets are 64-bit words. In edition 2 it leaves out the
+// one test of targets; all else is one rule for both editions, since in edition 1 every target was
+// inactive. (The transitions taken and the run after it.)
+fn cycle_in_words(held: &Held, run: &Run, clock: u32, inputs: u32) -> (u64, Run) {
+    let chart = &held.tables;
+    let has = |word: u64, k: usize| (word >> k) & 1 == 1;
+    let by = u64::from(clock.wrapping_sub(run.clock));
+    let older = |time: u32| (u64::from(time) + by).min(86_400_000) as u32;
+    let active = word_of(&run.active);
+    let signals = u64::from(inputs) | (word_of(&run.activity) << 32);
+    let (mut taken, mut left, mut targets) = (0u64, 0u64, 0u64);
+    for (k, t) in chart.transitions.iter().enumerate() {
+        let (from, to) = (word_of(&t.sources), word_of(&t.targets));
+        let ready = from & active & !left == from;
+        let true_now = word_of(&t.on) & !signals == 0 && word_of(&t.off) & signals == 0;
+        let waited = t.sources.iter().all(|s| older(at(&run.step_counters, *s)) >= t.wait);
+        let free = to & (active | targets) == 0;
+        if ready && true_now && waited && (free || chart.edition == 2) {
+            taken |= 1 << k;
+            left |= from;
+            targets |= to;
+        }
+    }
+    let now = (active & !left) | targets;
+    let entered = targets & (!active | left);
+    let mut after = run.clone();
+    after.clock = clock;
+    after.active = set_of(now);
+    for s in 0..64 {
+        let counter = older(at(&run.step_counters, s));
+        let stands = !has(now, s) || has(entered, s);
+        put(&mut after.step_counters, s, if stands { 0 } else { counter });
+    }
+    for (k, case) in chart.cases.iter().enumerate().filter(|(_, case)| has(left, case.step)) {
+        let equal = u8::from(has(signals, case.signal)) == case.expected;
+        let marks = if equal { &mut after.good } else { &mut after.bad };
+        marks.insert(k);
+    }
+    after.activity = Set::new();
+    let counters = after.step_counters.clone();
+    for a in 0..chart.actions.len() {
+        let blocks: Vec<&Block> = chart.blocks.iter().filter(|x| x.action == a).collect();
+        let some = |q: u8, holds: &dyn Fn(&Block) -> bool| {
+            blocks.iter().any(|x| x.qualifier == q && holds(x))
+        };
+        let on = |x: &Block| has(now, x.step);
+        let reached = |x: &Block| has(now, x.step) && at(&counters, x.step) >= x.duration;
+        let below = |x: &Block| has(now, x.step) && at(&counters, x.step) < x.duration;
+        let was = run.latched.contains(&a);
+        let timer = if was { older(at(&run.action_timers, a)) } else { 0 };
+        let reset = some(1, &on);
+        let stored = !reset && (run.stored.contains(&a) || some(2, &on) || some(7, &reached));
+        let latched = !reset && (was || some(6, &on) || some(8, &on));
+        let timed = some(6, &|x| timer >= x.duration) || some(8, &|x| timer < x.duration);
+        let pulse = some(5, &|x| has(entered, x.step))
+            || some(9, &|x| has(entered, x.step))
+            || some(10, &|x| has(left, x.step));
+        let steps = some(0, &on) || some(3, &below) || some(4, &reached);
+        after.stored.remove(&a);
+        after.latched.remove(&a);
+        after.stored.extend((a..a + 1).filter(|_| stored));
+        after.latched.extend((a..a + 1).filter(|_| latched));
+        put(&mut after.action_timers, a, if latched { timer } else { 0 });
+        if !reset && (stored || steps || pulse || (latched && timed)) {
+            after.activity.insert(a);
+        }
+    }
+    (taken, after)
+}
+
+// Request (viii): "State the choosing once, with the target test as the only difference." (many
+// charts and cycles by lot, each from the same run in both editions: both leave what the other way
+// leaves; where edition 1 holds nothing back for a target, edition 2 answers the same; otherwise
+// the first so held back is taken in edition 2, and all is the same before it)
+fn check_edition_by_lot(b: &mut Bench) {
+    let mut lot = 13;
+    let (mut same, mut apart, mut stayed, mut ran_on) = (0, 0, 0, 0);
+    let mut given = BTreeSet::new();
+    for k in 0..400 {
+        let first = held_by_lot(&mut lot);
+        let second = in_edition(&first, 2);
+        let mut run = played(&first, 0, &[]).0.run;
+        for cycles in 1..13 {
+            let (clock, inputs) = (9 * cycles, next_lot(&mut lot) as u32 % 8);
+            let (mut written_one, mut written_two) = (vec![5; 34], vec![5; 34]);
+            let one = cycle(&first, &run, clock, inputs, &mut written_one);
+            let two = cycle(&second, &run, clock, inputs, &mut written_two);
+            b.check("accepted", (one.code, two.code) == (0, 0));
+            let (taken, after) = cycle_in_words(&first, &run, clock, inputs);
+            b.check("edition 1 in words", word_of(&one.taken) == taken && one.run == after);
+            let (taken, after) = cycle_in_words(&second, &run, clock, inputs);
+            b.check("edition 2 in words", word_of(&two.taken) == taken && two.run == after);
+            b.check("edition 1, taken", taken_agree(&first, &one));
+            b.check("edition 2, taken", taken_agree(&second, &two));
+            b.check("edition 2, reasons", two.reasons.iter().all(|reason| *reason < 5));
+            let kept = test_run(&second.tables, &two.run).is_ok();
+            b.check("edition 2, a run of it", kept);
+            match one.reasons.iter().position(|reason| *reason == 5 || *reason == 6) {
+                None => {
+                    let equal = one.run == two.run && one.taken == two.taken;
+                    b.check("the same answer", equal && one.reasons == two.reasons);
+                    b.check("the same outputs", written_one == written_two);
+                    same += 1;
+                }
+                Some(place) => {
+                    let before = one.reasons.get(..place) == two.reasons.get(..place);
+                    b.check("the same before it", before && at(&two.reasons, place) == 0);
+                    b.check("and it is taken", two.taken.contains(&place));
+                    apart += 1;
+                }
+            }
+            let left = sources_of(&second.tables, &two.taken);
+            for step in targets_of(&second.tables, &two.taken) {
+                let was = run.active.contains(&step);
+                b.check("a target is active", two.run.active.contains(&step));
+                let counter = at(&two.run.step_counters, step);
+                if was && !left.contains(&step) {
+                    b.check("ran on", counter == at(&run.step_counters, step) + 9);
+                    ran_on += 1;
+                } else {
+                    b.check("entered", counter == 0);
+                    stayed += usize::from(was);
+                }
+            }
+            given.extend(two.reasons.iter().copied());
+            run = if k % 2 == 0 { two.run } else { one.run };
+        }
+    }
+    b.check("both happened", same > 500 && apart > 500);
+    b.check("steps stayed and ran on", stayed > 100 && ran_on > 100);
+    b.check("every reason up to 4", given == (0..5).collect());
+}
+
+// Request (viii): "For edition 2, demand 3 reads: initial plus arrivals is at least departures plus
+// active, arrivals counted per transition" (for every step, after every call, with the hold key
+// turned between; in edition 1 the two are equal)
+fn check_edition_ledger(b: &mut Bench) {
+    let mut lot = 17;
+    let (mut more, mut took) = (0, 0);
+    for edition in [1, 2].repeat(150) {
+        let held = in_edition(&held_by_lot(&mut lot), edition);
+        let mut run = played(&held, 0, &[]).0.run;
+        let (mut arrived, mut departed) = (vec![0; 6], vec![0; 6]);
+        count_up(&mut arrived, &run.active);
+        let mut outputs = vec![5; 34];
+        for k in 1..25 {
+            let deed = match next_lot(&mut lot) % 12 {
+                0 => Deed::Set,
+                1 | 2 => Deed::Clear,
+                _ => Deed::Cycle(9 * k, next_lot(&mut lot) as u32 % 8),
+            };
+            let answer = deed_done(&held, &run, deed, &mut outputs);
+            b.check("accepted", answer.code == 0);
+            for t in answer.taken.iter().filter_map(|k| held.tables.transitions.get(*k)) {
+                count_up(&mut arrived, &t.targets);
+                count_up(&mut departed, &t.sources);
+                took += 1;
+            }
+            run = answer.run;
+            let active = |step| usize::from(run.active.contains(&step));
+            let spent = |step| at(&departed, step) + active(step);
+            if held.tables.edition == 2 {
+                b.check("at least", (0..6).all(|step| at(&arrived, step) >= spent(step)));
+                more += (0..6).filter(|step| at(&arrived, *step) > spent(*step)).count();
+            } else {
+                b.check("equal", (0..6).all(|step| at(&arrived, step) == spent(step)));
+            }
+        }
+    }
+    b.check("more in edition 2", more > 1000 && took > 500);
+}
+
+// Request (viii): "the weighed sum never rises, so the exclusion of two steps holds as before"
+// (charts by lot of balanced transitions: steps 0 and 3 weigh 2, the others 1; two steps that weigh
+// more than the initial total are never active together)
+fn check_edition_weighed(b: &mut Bench) {
+    let balanced = [
+        (1, 6),
+        (6, 1),
+        (8, 48),
+        (48, 8),
+        (1, 8),
+        (8, 1),
+        (2, 4),
+        (4, 16),
+        (16, 32),
+        (32, 2),
+        (18, 36),
+        (6, 8),
+    ];
+    let weights: [u16; 6] = [2, 1, 1, 2, 1, 1];
+    let weight = |steps: &Set| -> u64 { steps.iter().map(|k| u64::from(at(&weights, *k))).sum() };
+    let mut lot = 19;
+    let (mut fell, mut pairs) = (0, 0);
+    for _ in 0..300 {
+        let mut records = Vec::new();
+        for k in 0..6 {
+            records.push(step(u8::from(k == 1 || next_lot(&mut lot) % 4 == 0)));
+        }
+        for _ in 0..10 {
+            let (sources, targets) = at(&balanced, (next_lot(&mut lot) % 12) as usize);
+            let on = next_lot(&mut lot) & next_lot(&mut lot) & 7;
+            records.push(transition(sources, targets, on, 0, 0));
+        }
+        records.push(edition(2));
+        let held = held_of(&records);
+        let mut run = played(&held, 0, &[]).0.run;
+        let total = weight(&run.active);
+        let weighed = Weighing { code: 0, transition: 0, total };
+        b.check("balanced", weighing(&held, &weights) == weighed);
+        for k in 1..15 {
+            let inputs = next_lot(&mut lot) as u32 % 8;
+            let answer = cycle(&held, &run, k, inputs, &mut [0; 32]);
+            let (before, after) = (weight(&run.active), weight(&answer.run.active));
+            b.check("never rises", answer.code == 0 && after <= before && after <= total);
+            fell += usize::from(after < before);
+            run = answer.run;
+            for one in 0..6 {
+                for two in 0..one {
+                    if u64::from(at(&weights, one)) + u64::from(at(&weights, two)) > total {
+                        let together = run.active.contains(&one) && run.active.contains(&two);
+                        b.check("never together", !together);
+                        pairs += 1;
+                    }
+                }
+            }
+        }
+    }
+    b.check("it fell, and there were pairs", fell > 100 && pairs > 1000);
+}
+
+// The printed run of a file of edition 2, and of one whose edition is refused; request (vi): "when
+// an accepted cycle takes nothing, prints a second line"
+fn check_edition_printed(b: &mut Bench) {
+    let trace = [start_record(0), cycle_record(1, 0), cycle_record(2, 0)].concat();
+    let none = "passed 0 failed 0 notrun 0\n";
+    let print = |records: &[Vec<u8>]| {
+        String::from_utf8(bench_run(Some(&records.concat()), &trace)).unwrap_or_default()
+    };
+    let chart = [step(1), step(1), transition(1, 2, 0, 0, 0)].concat();
+    let began = "0 0000000000000003 00000000 0000000000000000\n";
+    let first = "1 0000000000000003 00000000 0000000000000000\n5\n";
+    let second = "2 0000000000000003 00000000 0000000000000000\n5\n";
+    let printed = [began, first, second, none].concat();
+    b.check("edition 1, occupied", print(&[chart.clone(), end()]) == printed);
+    let first = "1 0000000000000002 00000000 0000000000000001\n";
+    let second = "2 0000000000000002 00000000 0000000000000000\n1\n";
+    let printed = [began, first, second, none].concat();
+    b.check("edition 2, occupied", print(&[chart.clone(), edition(2), end()]) == printed);
+    // Two steps change places; step 0 has P0 of action 0 and a case on input 0, expected 1.
+    let moves = [transition(1, 2, 0, 0, 0), transition(2, 1, 0, 0, 0)].concat();
+    let chart_two = [step(1), step(1), action(0, 1), moves, block(0, 0, 10, 0), case(0, 0, 1)];
+    let first = "1 0000000000000003 00000001 0000000000000003\n";
+    let second = "2 0000000000000003 00000001 0000000000000003\n";
+    let printed = [began, first, second, "passed 0 failed 1 notrun 0\n"].concat();
+    b.check("edition 2, places", print(&[chart_two.concat(), edition(2), end()]) == printed);
+    let first = "1 0000000000000003 00000000 0000000000000000\n55\n";
+    let second = "2 0000000000000003 00000000 0000000000000000\n55\n";
+    let printed = [began, first, second, "passed 0 failed 0 notrun 1\n"].concat();
+    b.check("edition 1, places", print(&[chart_two.concat(), end()]) == printed);
+    // Chart A prints the same in both editions.
+    let trace_a = [start_record(1000), cycle_record(1010, 1), cycle_record(1510, 2)].concat();
+    let printed = bench_run(Some(&chart_a()), &trace_a);
+    b.check("chart A prints", printed.ends_with(b"passed 1 failed 0 notrun 0\n"));
+    b.check("chart A, edition 2", bench_run(Some(&chart_a_second()), &trace_a) == printed);
+    // "A bad chart prints `refused chart` and the code"
+    let refused = |records: &[Vec<u8>], code: u64| {
+        let file = [vec![chart.clone()], records.to_vec()].concat();
+        print(&file) == format!("refused chart {}\n", code)
+    };
+    for byte in [0, 1, 3, 255].iter() {
+        b.check("prints 5", refused(&[edition(*byte), end()], 5));
+    }
+    b.check("prints 4", refused(&[edition(2), edition(2), end()], 4));
+    b.check("prints 3", refused(&[record(6, &[]), end()], 3));
+    b.check("prints 2", refused(&[record(7, &[2]), end()], 2));
+    b.check("prints 2, after 6", refused(&[edition(2), case(0, 0, 0), end()], 2));
+    b.check("prints 1", refused(&[edition(2)], 1));
+    b.check("prints 10", refused(&[edition(2), end(), vec![0; 70_000]], 10));
+    b.check("prints 9", print(&[step(0), edition(2), end()]) == "refused chart 9\n");
+}
+
+// For the command line: the edition in a chart image (with padding that is passed over) and in the
+// lines of `read` and `back`, by hand.
+fn check_edition_lines(b: &mut Bench) {
+    let framed = |file: &[u8]| [(file.len() as u32).to_le_bytes().to_vec(), file.to_vec()].concat();
+    let read = |file: Vec<u8>| read_case(&mut Fields::new(&framed(&file))).unwrap_or_default();
+    b.check("read, edition 1", read(chart_a()) == b"0 0 2 2 2 3 1 1\n");
+    b.check("read, edition 2", read(chart_a_second()) == b"0 0 2 2 2 3 1 2\n");
+    let bad = [step(1), edition(1), end()].concat();
+    b.check("read, refused", read(bad.clone()) == b"5 5 0 0 0 0 0 0\n");
+    let back = |file: Vec<u8>| back_case(&mut Fields::new(&framed(&file))).unwrap_or_default();
+    b.check("back, edition 2", back(chart_a_second()) == b"0 157 same\n");
+    b.check("back, refused", back(bad) == b"5\n");
+    let small = held_of(&[step(1), edition(2)]);
+    let line = writing_line(&small, 15);
+    b.check("line of a writing", line == b"0 14 1 0 1 0 1 1 0 6 0 2 0 0 0 0 14\n");
+    b.check("line of a writing, 17", writing_line(&small, 3) == b"17 0 0 1 2\n");
+    // The image: 4,552 bytes, the edition, 7 bytes of padding.
+    let image = held_image();
+    b.check("the image has 4,560 bytes", image.len() == 4560 + 437 && at(&image, 4552) == 1);
+    let mut fields = Fields::new(&image);
+    let held = chart_image(&mut fields);
+    b.check("and is read so", fields.place == 4560 && held.map_or(0, |x| x.tables.edition) == 1);
+    let cut = image.get(..4559).unwrap_or(&[]);
+    b.check("an image cut", chart_image(&mut Fields::new(cut)).is_none());
+    let zeros = |count: usize| " 0".repeat(count);
+    let lent: String = (0..32).map(|k| format!(" {}", 1000 + k)).collect();
+    // Two steps, both active; transition 0 from 0 to 1; the counters 5 and 6.
+    let image_of = |edition: u8, padding: u8| {
+        let mut image = image.clone();
+        for (place, byte) in [(0, 2), (16, 1), (40, 1), (41, 1), (264, 1), (776, 2)].iter() {
+            put(&mut image, *place, *byte);
+        }
+        put(&mut image, 4552, edition);
+        for place in 4553..4560 {
+            put(&mut image, place, padding);
+        }
+        for (place, byte) in [(4, 3), (36, 5), (40, 6)].iter() {
+            put(&mut image, 4560 + *place, *byte);
+        }
+        image
+    };
+    let line_of_call = |image: &[u8], call: Vec<u8>| {
+        let input = [image, &call].concat();
+        let line = held_case(&mut Fields::new(&input)).unwrap_or_default();
+        String::from_utf8(line).unwrap_or_default()
+    };
+    let run = |text: &str, counters: &str| format!("{} 0 0 0 0 0 {}{}", text, counters, zeros(94));
+    let cycle = || call_bytes(1, 1007, 0, 32, 0);
+    for padding in [0, 1, 2, 255].iter() {
+        let line = |edition, call| line_of_call(&image_of(edition, *padding), call);
+        let one = format!("{}{} 5{}\n", run("0 0 1007 3 0", "12 13"), zeros(32), zeros(63));
+        b.check("line of a cycle, edition 1", line(1, cycle()) == one);
+        let two = format!("{}{}{}\n", run("0 1 1007 2 0", "0 13"), zeros(32), zeros(64));
+        b.check("line of a cycle, edition 2", line(2, cycle()) == two);
+        for other in [0, 3, 4, 129, 254, 255].iter() {
+            let refused = format!("{}{}{}\n", run("5 0 1000 3 0", "5 6"), lent, zeros(64));
+            b.check("line of a cycle, 5", line(*other, cycle()) == refused);
+            let refused = format!("5 0{}{}\n", zeros(8 + 96), lent);
+            b.check("line of a start, 5", line(*other, call_bytes(0, 7, 0, 32, 0)) == refused);
+            b.check("line of a tally, 5", line(*other, call_bytes(2, 0, 0, 0, 0)) == "5 0 0 0\n");
+            b.check("line of a weighing, 5", line(*other, call_bytes(3, 0, 0, 0, 0)) == "5 0 0\n");
+            b.check("line of a writing, 5", line(*other, call_bytes(4, 2, 0, 0, 0)) == "5 0 0 1\n");
+            let refused = run("5 0 1000 3 0", "5 6") + "\n";
+            b.check("line of setting, 5", line(*other, call_bytes(6, 0, 0, 0, 0)) == refused);
+            b.check("line of clearing, 5", line(*other, call_bytes(7, 0, 0, 0, 0)) == refused);
+            let lists = [call_bytes(5, 65_537, 1, 32, 0), four_bytes(&[1007, 0])].concat();
+            let refused = format!("{}{} 4294967296\n", run("5 0 1000 3 0", "5 6"), lent);
+            b.check("line of a shift, 5", line(*other, lists) == refused);
+        }
+    }
+    let zero = [vec![0; 4560], vec![0; 437], call_bytes(2, 0, 0, 0, 0)].concat();
+    b.check("an all-zero image", held_case(&mut Fields::new(&zero)) == Some(b"5 0 0 0\n".to_vec()));
 }
 
 // ---------------------------------------------------------------------------------------------
