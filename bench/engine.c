@@ -85,7 +85,7 @@ static enum tw_code closing_code(const struct tw_chart *c)
 	return twice ? TW_TIMED_TWICE : TW_ACCEPTED;
 }
 
-static const uint8_t LENGTHS[6] = { 0, 1, 5, 36, 7, 3 };
+static const uint8_t LENGTHS[7] = { 0, 1, 5, 36, 7, 3, 1 };
 
 static enum tw_code read_records(const uint8_t *bytes, size_t size, struct tw_chart *c, size_t *place)
 {
@@ -97,7 +97,7 @@ static enum tw_code read_records(const uint8_t *bytes, size_t size, struct tw_ch
 		if (size - at < 4)
 			return TW_CUT;
 		uint32_t length = u16_at(bytes + at), kind = u16_at(bytes + at + 2);
-		if (kind > 5 || (kind != 0 && kind < before))
+		if (kind > 6 || (kind != 0 && kind < before))
 			return TW_BAD_KIND;
 		if (length != LENGTHS[kind])
 			return TW_BAD_LENGTH;
@@ -167,6 +167,13 @@ static enum tw_code read_records(const uint8_t *bytes, size_t size, struct tw_ch
 			c->expected[i] = b[2];
 			c->cases = i + 1;
 			break;
+		case 6:
+			if (before == 6)
+				return TW_TOO_MANY;
+			if (b[0] != 2)
+				return TW_BAD_FIELD;
+			c->edition = 2;
+			break;
 		default:
 			*place = at + 4;
 			if (at + 4 < size)
@@ -182,6 +189,7 @@ static enum tw_code read_records(const uint8_t *bytes, size_t size, struct tw_ch
 enum tw_code c_read(const uint8_t *bytes, size_t size, struct tw_chart *chart, size_t *place)
 {
 	memset(chart, 0, sizeof *chart);
+	chart->edition = 1;
 	enum tw_code code = read_records(bytes, size, chart, place);
 	if (code)
 		memset(chart, 0, sizeof *chart);
@@ -246,7 +254,7 @@ enum tw_code c_test(const struct tw_chart *c)
 	uint8_t steps = (uint8_t)c->steps, signals = (uint8_t)(32 + c->actions);
 	for (size_t i = 0; i < c->cases; i++)
 		bad |= (c->casestep[i] >= steps) | (c->signal[i] >= signals) | (c->expected[i] > 1);
-	if (bad)
+	if (bad | (c->edition != 1 && c->edition != 2))
 		return TW_BAD_FIELD;
 	if (mark == 0)
 		return TW_NO_INITIAL;
@@ -272,7 +280,7 @@ enum tw_code c_write(const struct tw_chart *c, uint8_t *bytes, size_t lent, size
 	enum tw_code code = c_test(c);
 	if (code)
 		return code;
-	size_t whole = 5 * c->steps + 9 * c->actions + 40 * c->transitions + 11 * c->blocks + 7 * c->cases + 4;
+	size_t whole = 5 * c->steps + 9 * c->actions + 40 * c->transitions + 11 * c->blocks + 7 * c->cases + (c->edition == 2 ? 5 : 0) + 4;
 	if (lent < whole)
 		return TW_TOO_FEW_BYTES;
 	uint8_t *b = bytes;
@@ -306,6 +314,10 @@ enum tw_code c_write(const struct tw_chart *c, uint8_t *bytes, size_t lent, size
 		b = put(b, c->signal[i], 1);
 		b = put(b, c->expected[i], 1);
 	}
+	if (c->edition == 2) {
+		b = put_head(b, 6);
+		b = put(b, 2, 1);
+	}
 	put_head(b, 0);
 	*length = whole;
 	return TW_ACCEPTED;
@@ -337,7 +349,7 @@ static inline unsigned belongs(const struct tw_chart *c, const struct tw_run *r)
 static inline void grow(uint32_t *counts, uint64_t set, uint32_t elapsed)
 {
 	for (; set; set &= set - 1) {
-		unsigned k = __builtin_ctzll(set);
+		unsigned k = (unsigned)__builtin_ctzll(set);
 		uint32_t n = counts[k] + elapsed;
 		counts[k] = n < TW_LONGEST ? n : TW_LONGEST;
 	}
@@ -358,11 +370,12 @@ static inline int ripe(const uint32_t *counters, uint64_t sources, uint32_t wait
 	return 1;
 }
 
+/* What the transitions taken so far leave and lead to. */
 struct moves {
-	uint64_t taken, left, entered;
+	uint64_t taken, left, targets;
 };
 
-/* Request (vi): why transition t is not taken after these moves, the first that speaks against it. */
+/* Request (vi): why transition t is not taken after these moves, the first that speaks against it; targets only in edition 1. */
 static inline enum tw_reason reason(const struct tw_chart *c, const struct tw_run *r, uint64_t signals, struct moves m, size_t t)
 {
 	uint64_t sources = c->sources[t], targets = c->targets[t];
@@ -374,9 +387,11 @@ static inline enum tw_reason reason(const struct tw_chart *c, const struct tw_ru
 		return TW_SIGNAL;
 	if (!ripe(r->counters, sources, c->wait[t]))
 		return TW_WAIT;
+	if (c->edition == 2)
+		return TW_TAKEN;
 	if (targets & r->active)
 		return TW_OCCUPIED;
-	return targets & m.entered ? TW_CLAIMED : TW_TAKEN;
+	return targets & m.targets ? TW_CLAIMED : TW_TAKEN;
 }
 
 /* The transitions in number order, and why each is not taken; no reasons for a null. */
@@ -391,7 +406,7 @@ static inline struct moves choose(const struct tw_chart *c, const struct tw_run 
 			continue;
 		m.taken |= BIT(t);
 		m.left |= c->sources[t];
-		m.entered |= c->targets[t];
+		m.targets |= c->targets[t];
 	}
 	return m;
 }
@@ -509,11 +524,14 @@ static inline enum tw_code advance(const struct tw_chart *c, struct tw_run *r, u
 	grow(r->timers, r->latched, elapsed);
 	uint64_t signals = inputs | r->activity << 32;
 	struct moves m = choose(c, r, signals, reasons);
-	r->active = (r->active & ~m.left) | m.entered;
-	clear(r->counters, m.left | m.entered);
+	/* In edition 1 no target stayed, so that all are entered. */
+	uint64_t stayed = r->active & ~m.left, entered = m.targets & ~stayed;
+	r->active = stayed | m.targets;
+	/* A step that was not active has the counter 0. */
+	clear(r->counters, m.left);
 	if (m.left)
 		mark(c, r, m.left, signals);
-	settle(c, r, m.entered, m.left, outputs);
+	settle(c, r, entered, m.left, outputs);
 	r->clock = clock;
 	*taken = m.taken;
 	return TW_ACCEPTED;

@@ -2,7 +2,8 @@
 
      bench compare SEED COUNT               COUNT random charts, good and damaged: every answer and all that is lent equal, or exit 1
      bench soak    SEED CHARTS N            N thousand cycles on each of CHARTS charts, compared after each: equal, or exit 1
-     bench cycles  CHART ENGINE SEED N      N cycles of small, typical, full or waiting on the engine proved, c or both (both: exit 1 if they differ)
+     bench cycles  CHART ENGINE SEED N      N cycles of small, typical, full, waiting or crowded, with -2 behind it in edition 2, on the engine proved, c
+                                            or both (both: exit 1 if they differ)
      bench shift   CHART ENGINE SEED N      N cycles, at most 4,096, in one shift
      bench held-cycles CHART ENGINE SEED N  N cycles, at most 3,996, of a run that has made 100 and is held by the key
      bench held-shift  CHART ENGINE SEED N  N cycles of such a run, at most 4,096, in one shift
@@ -92,6 +93,12 @@ static void case_of(struct file *f, unsigned step, unsigned signal, unsigned exp
 	put(f, expected, 1);
 }
 
+static void edition(struct file *f, unsigned which)
+{
+	head(f, 1, 6);
+	put(f, which, 1);
+}
+
 #define BIT(k) (UINT64_C(1) << (k))
 
 static const unsigned UNTIMED[] = { TW_N, TW_R, TW_S, TW_P, TW_P1, TW_P0, TW_N, TW_N };
@@ -125,7 +132,6 @@ static void small(struct file *f)
 		transition(f, BIT(i), BIT((i + 1) % 4), BIT(any(32)), 0, i == 2 ? 40 : 0);
 	some_blocks(f, 8, 4, 4);
 	some_cases(f, 4, 4, 4);
-	head(f, 0, 0);
 }
 
 /* Twelve steps with two active: a ring with guards and waits, a fork, a join and two leaps. */
@@ -143,7 +149,6 @@ static void typical(struct file *f)
 	transition(f, BIT(10), BIT(1), 0, BIT(any(32)) | BIT(32 + any(12)), 30);
 	some_blocks(f, 40, 12, 12);
 	some_cases(f, 12, 12, 12);
-	head(f, 0, 0);
 }
 
 /* Every limit reached: 32 pairs of steps, one of each pair active, which most transitions are free to leave for the other. */
@@ -157,7 +162,6 @@ static void full(struct file *f)
 		transition(f, BIT(i), BIT(i ^ 1), i % 4 == 0 ? BIT(any(32)) : 0, i % 8 == 3 ? BIT(any(64)) : 0, i % 8 == 5 ? any(50) : 0);
 	some_blocks(f, 256, 64, 32);
 	some_cases(f, 64, 64, 32);
-	head(f, 0, 0);
 }
 
 /* Every limit reached, and nearly all of it waits: a ring of 32 pairs of steps, one of each pair active. A transition leaves the active ones of two
@@ -174,7 +178,23 @@ static void waiting(struct file *f)
 	}
 	some_blocks(f, 256, 64, 32);
 	some_cases(f, 64, 64, 32);
-	head(f, 0, 0);
+}
+
+/* A ring of 32 steps in which they meet: from each one transition leads to the next, and another is a fork or a join, by turns. In edition 2 many a step
+   is left and entered at once, or led to by two or while it stays; in edition 1 transitions wait for such targets. */
+static void crowded(struct file *f)
+{
+	for (unsigned i = 0; i < 32; i++)
+		step(f, i % 2 == 0);
+	for (unsigned i = 0; i < 32; i++)
+		action(f, any(32), (int32_t)any_word());
+	for (unsigned i = 0; i < 32; i++) {
+		uint64_t here = BIT(i), next = BIT((i + 1) % 32), far = BIT((i + 7) % 32);
+		transition(f, here, next, BIT(any(32)), 0, i % 8 == 3 ? any(50) : 0);
+		transition(f, i % 2 ? here | next : here, i % 2 ? far : next | far, 0, BIT(any(64)), 0);
+	}
+	some_blocks(f, 256, 32, 32);
+	some_cases(f, 64, 32, 32);
 }
 
 /* A chart with any fields that fit, then perhaps a damage. */
@@ -212,6 +232,8 @@ static void random_chart(struct file *f)
 	n = steps ? any(65) : 0;
 	for (unsigned i = 0; i < n; i++)
 		case_of(f, any(steps), any(32 + actions), any(2));
+	for (n = any(2) + (odd && any(odd) == 0); n > 0; n--)
+		edition(f, odd && any(odd) == 0 ? any(256) : 2);
 	head(f, 0, 0);
 	if (any(6) == 0)
 		f->bytes[any((uint32_t)f->size)] ^= (uint8_t)(1u << any(8));
@@ -262,21 +284,26 @@ static void some_stretches(void)
 	}
 }
 
+/* The chart of a name; with -2 behind it, in edition 2. */
 static void chart_of(const char *name, struct file *f)
 {
-	f->size = 0;
-	if (!strcmp(name, "small"))
-		small(f);
-	else if (!strcmp(name, "typical"))
-		typical(f);
-	else if (!strcmp(name, "full"))
-		full(f);
-	else if (!strcmp(name, "waiting"))
-		waiting(f);
-	else {
-		fprintf(stderr, "no chart %s\n", name);
-		exit(2);
+	static const struct {
+		const char *name;
+		void (*put)(struct file *);
+	} charts[] = { { "small", small }, { "typical", typical }, { "full", full }, { "waiting", waiting }, { "crowded", crowded } };
+	for (size_t k = 0; k < sizeof charts / sizeof *charts; k++) {
+		size_t n = strlen(charts[k].name);
+		if (strncmp(name, charts[k].name, n) || (name[n] && strcmp(name + n, "-2")))
+			continue;
+		f->size = 0;
+		charts[k].put(f);
+		if (name[n])
+			edition(f, 2);
+		head(f, 0, 0);
+		return;
 	}
+	fprintf(stderr, "no chart %s\n", name);
+	exit(2);
 }
 
 struct engine {
@@ -408,18 +435,23 @@ static void measure(const char *what, const struct engine *e, const struct file 
 	}
 }
 
-/* What lies between the clock and the active steps, and behind the hold mark, is nobody's. */
-static void even(struct tw_run *run)
+static void zero(void *in, size_t from, size_t to)
 {
-	size_t behind = offsetof(struct tw_run, hold) + sizeof run->hold;
-	memset((uint8_t *)run + sizeof run->clock, 0, offsetof(struct tw_run, active) - sizeof run->clock);
-	memset((uint8_t *)run + behind, 0, sizeof *run - behind);
+	memset((uint8_t *)in + from, 0, to - from);
+}
+
+/* What lies behind the edition, between the clock and the active steps, and behind the hold mark, is nobody's. */
+static void even(struct tw_chart *chart, struct tw_run *run)
+{
+	zero(chart, offsetof(struct tw_chart, edition) + sizeof chart->edition, sizeof *chart);
+	zero(run, sizeof run->clock, offsetof(struct tw_run, active));
+	zero(run, offsetof(struct tw_run, hold) + sizeof run->hold, sizeof *run);
 }
 
 static int equal(const char *what, struct bench *proved, struct bench *c)
 {
-	even(&proved->run);
-	even(&c->run);
+	even(&proved->chart, &proved->run);
+	even(&c->chart, &c->run);
 	if (!memcmp(proved, c, sizeof *c))
 		return 1;
 	const uint8_t *p = (const uint8_t *)proved, *q = (const uint8_t *)c;
@@ -447,16 +479,17 @@ static int compare(uint32_t count)
 {
 	static struct file f;
 	static struct tw_chart chart;
-	uint32_t accepted = 0;
+	uint32_t accepted = 0, second = 0;
 	size_t place;
 	for (uint32_t k = 0; k < count; k++) {
 		f.size = 0;
 		random_chart(&f);
 		if (k % 50 == 0)
 			some_inputs((uint32_t)any_word(), 1);
-		chart_at = any(sizeof (struct tw_chart));
+		chart_at = any(8) ? any(sizeof (struct tw_chart)) : offsetof(struct tw_chart, edition);
 		run_at = any(4) ? any(sizeof (struct tw_run)) : offsetof(struct tw_run, hold);
-		chart_by = any(8) ? 0 : (uint8_t)(1u << any(8));
+		/* by 3 an edition becomes the other one */
+		chart_by = any(8) ? 0 : any(8) ? (uint8_t)(1u << any(8)) : 3;
 		run_by = any(8) ? 0 : (uint8_t)(1u << any(8));
 		/* an accepted chart's file is as long as it was */
 		lent = any(2) ? any(8193) : f.size - (f.size != 0 && any(2));
@@ -471,8 +504,9 @@ static int compare(uint32_t count)
 			return 1;
 		}
 		accepted += c_read(f.bytes, f.size, &chart, &place) == TW_ACCEPTED;
+		second += chart.edition == 2;
 	}
-	printf("%u charts, %u of them accepted: all answers equal\n", count, accepted);
+	printf("%u charts, %u of them accepted, %u of these in edition 2: all answers equal\n", count, accepted, second);
 	return 0;
 }
 
@@ -481,8 +515,8 @@ static int soak(uint32_t charts, uint32_t thousands)
 {
 	static struct file f;
 	static struct bench proved, c;
-	static const char *const named[] = { "small", "typical", "full", "waiting" };
-	uint64_t accepted = 0, under_hold = 0;
+	static const char *const named[] = { "small", "typical", "full", "waiting", "crowded", "small-2", "typical-2", "full-2", "waiting-2", "crowded-2" };
+	uint64_t accepted = 0, under_hold = 0, second = 0;
 	for (uint32_t k = 0; k < charts; k++) {
 		if (k < sizeof named / sizeof *named)
 			chart_of(named[k], &f);
@@ -510,9 +544,11 @@ static int soak(uint32_t charts, uint32_t thousands)
 		}
 		accepted += proved.accepted;
 		under_hold += proved.held;
+		second += proved.chart.edition == 2 ? proved.accepted : 0;
 	}
-	printf("%u charts, %u thousand cycles on each, %llu accepted in all, %llu of them under hold: after each thousand the same runs and outputs\n",
-		charts, thousands, (unsigned long long)accepted, (unsigned long long)under_hold);
+	printf("%u charts, %u thousand cycles on each, %llu accepted in all, %llu of them under hold, %llu in edition 2: "
+		"after each thousand the same runs and outputs\n",
+		charts, thousands, (unsigned long long)accepted, (unsigned long long)under_hold, (unsigned long long)second);
 	return 0;
 }
 
