@@ -1,5 +1,5 @@
 -- The second edition of the stepping rule (document 02, request viii): what the definitions of the choosing and of the entered steps come to in each
--- edition. Demand 3 in both is in Ledger, Weights and Shifts, the reasons in Reasons, examples in Examples.
+-- edition, and the numbers. Demand 3 in both is in Ledger, Weights and Shifts, the reasons in Reasons; the crate `examples` has examples.
 use Prim.Native.Nat.{ℕ, _≤_, _<_}
 use mathlib.Core.Bool.{Bool, true, false, cond, _&&_, _||_, not}
 use mathlib.Core.List.{List}

@@ -26,8 +26,9 @@ use Rattle.claims.specs.AtLeast.{AtLeast}
 use Rattle.claims.specs.Moves.{among, Chosen, none-is, choice-is, moved}
 use Rattle.claims.specs.Runs.{Call, cycle, turn, keyed, answer, begun, one}
 
--- an answer o to a call that was given the run r: accepted, each step's arrivals and departures by the taken transitions are as its activity changes,
--- in the second edition its arrivals at least; refused, the run is the one that was given; and what is taken is a transition of the chart, so that the history has it
+-- an answer o to a call that was given the run r: accepted, each step's arrivals plus its activity before are its departures plus its activity
+-- after, by the taken transitions, and in the second edition at least that; refused, the run is the one that was given; and what is taken is a
+-- transition of the chart, so that the history has it
 pub record Fair (c : Chart) (r : Run) (o : Cycled) : Type 0 where
   pub accepted : o .code ≡ 0 → (k : ℕ) → k < 64
       → AtLeast (c .edition) (among (c .targets) (c .transitions) (o .taken) k + one (has (r .active) k)) (among (c .sources) (c .transitions) (o .taken) k + one (has (o .run .active) k))
