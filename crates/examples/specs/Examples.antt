@@ -227,10 +227,6 @@ pushCalls = cycle (record { clock = 10; inputs = 0; lent = 32 }) ∷ []
 abbrev steps : Chart → ℕ → Steps
 steps c clock = let r = began c 0 in stepsOf (r .active) (choiceOf c r (countsAt r clock) (signalsOf 0 (r .activity)))
 
--- a file of one initial step, the records x behind it, and the end
-abbrev file : List ℕ → List ℕ
-file x = (1 ∷ 0 ∷ 1 ∷ 0 ∷ 1 ∷ []) ++ x ++ (0 ∷ 0 ∷ 0 ∷ 0 ∷ [])
-
 pub record Editions : Type 0 where
   -- edition 1 takes none
   pub first-none : swapped 1 .taken ≡ 0
@@ -250,20 +246,13 @@ pub record Editions : Type 0 where
   pub pushed-arrivals : arrivals pushed 1 (history pushed (began pushed 0) pushCalls) ≡ 1
   pub pushed-departures : departures pushed 1 (history pushed (began pushed 0) pushCalls) ≡ 0
   pub pushed-active : has (after pushed (began pushed 0) pushCalls .active) 1 ≡ true
-  -- the record in a file, its byte, a second one, one before a case, and kind 7
-  pub read-second : readChart (file (1 ∷ 0 ∷ 6 ∷ 0 ∷ 2 ∷ [])) .chart .edition ≡ 2
-  pub read-first : readChart (file []) .chart .edition ≡ 1
-  pub byte-one : readChart (file (1 ∷ 0 ∷ 6 ∷ 0 ∷ 1 ∷ [])) .code ≡ 5
-  pub twice : (readChart (file (1 ∷ 0 ∷ 6 ∷ 0 ∷ 2 ∷ 1 ∷ 0 ∷ 6 ∷ 0 ∷ 2 ∷ [])) .code ≡ 4) × (readChart (file (1 ∷ 0 ∷ 6 ∷ 0 ∷ 2 ∷ 1 ∷ 0 ∷ 6 ∷ 0 ∷ 2 ∷ [])) .place ≡ 10)
-  pub before-a-case : readChart (file (1 ∷ 0 ∷ 6 ∷ 0 ∷ 2 ∷ 3 ∷ 0 ∷ 5 ∷ 0 ∷ 0 ∷ 0 ∷ 0 ∷ [])) .code ≡ 2
-  pub kind-seven : readChart (file (1 ∷ 0 ∷ 7 ∷ 0 ∷ 2 ∷ [])) .code ≡ 2
   -- a held chart, the all-zero one of a refused reading among them; the edition comes before "no initial step"
   pub held-zero : chartCode noChart ≡ 5
   pub held-three : chartCode (withStep (emptyChart 3) 1) ≡ 5
   pub held-none : chartCode (emptyChart 2) ≡ 9
 
 pub editions : Editions
-unfolding all some summed firstCode tableFrom turns collect recordNumber transitionCode bodyAt stepsCode actionsCode transitionsCode blocksCode casesCode someInitial timedFor timedTwice heldCode readFrom reason chosen reasonsOf marksOf initialSet asked acted after history listed howMany
+unfolding all some summed firstCode tableFrom turns collect transitionCode stepsCode actionsCode transitionsCode blocksCode casesCode someInitial timedFor timedTwice heldCode reason chosen reasonsOf marksOf initialSet asked acted after history listed howMany
 editions = record {
   first-none = refl;
   first-why = refl;
@@ -280,12 +269,6 @@ editions = record {
   pushed-arrivals = refl;
   pushed-departures = refl;
   pushed-active = refl;
-  read-second = refl;
-  read-first = refl;
-  byte-one = refl;
-  twice = (refl, refl);
-  before-a-case = refl;
-  kind-seven = refl;
   held-zero = refl;
   held-three = refl;
   held-none = refl;
