@@ -16,7 +16,7 @@ use Rattle.chart.specs.Held.{limitsFit, stepsCode, actionsCode, transitionsCode
 use Rattle.chart.specs.declared.chart.Chart.{Chart}
 use Rattle.chart.proofs.held.Sound.{sound}
 use Rattle.reader.specs.Reading.{numberIn}
-use Rattle.reader.specs.declared.bodies.Body.the-variants.{Edition}
+use Rattle.judging.specs.declared.Body.the-variants.{Edition}
 use Rattle.choice.specs.declared.Choice.{Choice}
 use Rattle.acting.specs.Acting.{keptCount}
 use Rattle.run.specs.Run.{counter}

@@ -19,8 +19,8 @@ use Rattle.chart.proofs.held.Each.{either, else-each, transition-each, closing-
 use Rattle.reader.specs.Framing.{lengthAt, kindAt, bodyLength, headNumber, recordNumber}
 use Rattle.reader.specs.Bodies.{bodyAt}
 use Rattle.reader.specs.Reading.{refused, accepted, closed, ended, withBody, numberIn, taken, readFrom, readChart}
-use Rattle.reader.specs.declared.bodies.Body.{Body}
-use Rattle.reader.specs.declared.bodies.Body.the-variants.{Step, Action, Transition, Block, Case, Edition}
+use Rattle.judging.specs.declared.Body.{Body}
+use Rattle.judging.specs.declared.Body.the-variants.{Step, Action, Transition, Block, Case, Edition}
 use Rattle.reader.specs.declared.reading.Reading.{Reading}
 use Rattle.run.specs.Run.{noRun}
 use Rattle.run.specs.Belongs.{belongs, ownCode}

@@ -17,6 +17,9 @@ use Rattle.chart.specs.Held.{closingCode, heldCode, chartCode}
 use Rattle.chart.specs.Initial.{initialSet}
 use Rattle.chart.specs.declared.chart.Chart.{Chart}
 use Rattle.chart.proofs.Unique.{at-most-unique, index-of-unique, closing-code-unique, held-code-unique, chart-code-unique, initial-of-unique}
+use Rattle.judging.specs.Judging.{bodyCode}
+use Rattle.judging.specs.declared.Body.the-variants.{Step, Action, Transition, Block, Case, Edition}
+use Rattle.judging.proofs.Unique.{body-code-unique}
 use Rattle.reader.specs.Numbers.{leFrom}
 use Rattle.reader.specs.Framing.{Answers}
 use Rattle.reader.specs.Reading.{readChart, Tables, readingOf}
@@ -131,6 +134,17 @@ pub record ChartUnique : Type 0 where
   pub chart-code : (chart : Chart) → One (λ (r : ℕ). r ≡ chartCode chart)
   pub initial-of : (n : ℕ) (initial : List ℕ) → One (λ (r : ℕ). r ≡ initialSet n initial)
 
+-- judging/src/lib.rt
+pub record JudgingUnique : Type 0 where
+  pub step-code : (steps initial : ℕ) → One (λ (r : ℕ). r ≡ bodyCode steps 0 0 0 0 0 (Step initial))
+  pub action-code : (actions output : ℕ) (value : ℤ) → One (λ (r : ℕ). r ≡ bodyCode 0 actions 0 0 0 0 (Action output value))
+  pub transition-code : (steps actions transitions sources targets on off wait : ℕ)
+      → One (λ (r : ℕ). r ≡ bodyCode steps actions transitions 0 0 0 (Transition sources targets on off wait))
+  pub block-code : (steps actions blocks step action qualifier duration : ℕ)
+      → One (λ (r : ℕ). r ≡ bodyCode steps actions 0 blocks 0 0 (Block step action qualifier duration))
+  pub case-code : (steps actions cases step signal expected : ℕ) → One (λ (r : ℕ). r ≡ bodyCode steps actions 0 0 cases 0 (Case step signal expected))
+  pub edition-code : (edition byte : ℕ) → One (λ (r : ℕ). r ≡ bodyCode 0 0 0 0 0 edition (Edition byte))
+
 -- reader/src: framing, numbers, reading
 pub record ReaderUnique : Type 0 where
   pub record-at : (bytes : List ℕ) (at before : ℕ) → One (λ (r : Next). Answers r bytes at before)
@@ -244,6 +258,7 @@ pub record Unique : Type 0 where
   pub sets : SetsUnique
   pub fields : FieldsUnique
   pub chart : ChartUnique
+  pub judging : JudgingUnique
   pub reader : ReaderUnique
   pub choice : ChoiceUnique
   pub acting : ActingUnique
@@ -299,6 +314,14 @@ unique = record {
     held-code = held-code-unique;
     chart-code = chart-code-unique;
     initial-of = initial-of-unique;
+  };
+  judging = record {
+    step-code = λ steps initial. body-code-unique steps 0 0 0 0 0 (Step initial);
+    action-code = λ actions output value. body-code-unique 0 actions 0 0 0 0 (Action output value);
+    transition-code = λ steps actions transitions sources targets on off wait. body-code-unique steps actions transitions 0 0 0 (Transition sources targets on off wait);
+    block-code = λ steps actions blocks step action qualifier duration. body-code-unique steps actions 0 blocks 0 0 (Block step action qualifier duration);
+    case-code = λ steps actions cases step signal expected. body-code-unique steps actions 0 0 cases 0 (Case step signal expected);
+    edition-code = λ edition byte. body-code-unique 0 0 0 0 0 edition (Edition byte);
   };
   reader = record {
     record-at = record-at-unique;

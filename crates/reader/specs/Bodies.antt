@@ -1,17 +1,15 @@
--- The body of a record: what its bytes are, by the table of kinds, both ways, and its number of refusal.
+-- The body of a record: what its bytes are, by the table of kinds, both ways.
 use Prim.Native.Nat.{ℕ}
 use mathlib.Core.List.{List, [], _∷_}
-use mathlib.Core.Bool.{Bool, cond}
+use mathlib.Core.Bool.{cond}
 use lib.ListN.{getD}
-use lib.Dec.{ltb, eqb}
+use lib.Dec.{eqb}
 use mir.Syntax.{w32}
 use mir.Val.{toZ, ofZ}
-use Rattle.sets.specs.Loops.{orElse}
-use Rattle.fields.specs.Fields.{unless, stepFits, actionFits, transitionCode, blockFits, caseFits, second}
 use Rattle.reader.specs.Numbers.{numbersAt}
 use Rattle.reader.specs.Framing.{widths, recordBytes}
-use Rattle.reader.specs.declared.bodies.Body.{Body}
-use Rattle.reader.specs.declared.bodies.Body.the-variants.{Step, Action, Transition, Block, Case, Edition}
+use Rattle.judging.specs.declared.Body.{Body}
+use Rattle.judging.specs.declared.Body.the-variants.{Step, Action, Transition, Block, Case, Edition}
 
 -- a body of kind k from its fields: "1 initial, 0 not"; "output 0..31; value, signed 32 bits"; "sources, targets, on, off (64-bit sets, bit k
 -- is number k); wait in ms (32 bits)"; "step, action, qualifier (a byte each); duration in ms (32 bits)"; "step, signal 0..63, expected 0 or 1";
@@ -51,17 +49,3 @@ bodyAt s k at = bodyOf k (fieldsAt s k at)
 
 abbrev pub recordOf : Body → List ℕ
 recordOf b = recordBytes (kindOf b) (fieldsOf b)
-
--- "one more of a kind than its limit" (4), before the fields' number
-abbrev pub limited : Bool → ℕ → ℕ
-limited room code = orElse (unless room 4) code
-
--- the number of a body that is read after so many steps, actions, transitions, blocks and cases, in the edition so far: the first, until the one
--- record that "limit one" allows says the second
-abbrev pub bodyCode : ℕ → ℕ → ℕ → ℕ → ℕ → ℕ → Body → ℕ
-bodyCode s a t b c e (Step i) = limited (ltb s 64) (unless (stepFits i) 5)
-bodyCode s a t b c e (Action o v) = limited (ltb a 32) (unless (actionFits o) 5)
-bodyCode s a t b c e (Transition f g on off w) = limited (ltb t 64) (transitionCode s a f g on off w)
-bodyCode s a t b c e (Block k l q d) = limited (ltb b 256) (unless (blockFits s a k l q d) 5)
-bodyCode s a t b c e (Case k n x) = limited (ltb c 64) (unless (caseFits s a k n x) 5)
-bodyCode s a t b c e (Edition x) = limited (ltb e 2) (unless (second x) 5)

@@ -2,11 +2,11 @@
 ghost use mathlib.Core.Path.{_≡_};
 ghost use Rattle.reader.specs.Reading.{readingOf, readChart};
 use crate::bodies;
-use crate::bodies::Body;
 use crate::codes::SURPLUS;
 use crate::framing;
 use crate::framing::Next;
 use chart::Chart;
+use judging::Body;
 
 // What a reading answers beside the tables: its number, its place, the counts and the edition.
 pub struct Read {
@@ -116,7 +116,7 @@ pub fn read_into(
                 before = kind;
                 match body {
                     Body::Step(i) => {
-                        code = bodies::step_code(steps, i);
+                        code = judging::step_code(steps, i);
                         if code != 0 {
                             break;
                         }
@@ -124,7 +124,7 @@ pub fn read_into(
                         steps += 1;
                     }
                     Body::Action(o, v) => {
-                        code = bodies::action_code(actions, o, v);
+                        code = judging::action_code(actions, o, v);
                         if code != 0 {
                             break;
                         }
@@ -133,7 +133,7 @@ pub fn read_into(
                         actions += 1;
                     }
                     Body::Transition(s, t, n, f, w) => {
-                        code = bodies::transition_code(steps, actions, transitions, s, t, n, f, w);
+                        code = judging::transition_code(steps, actions, transitions, s, t, n, f, w);
                         if code != 0 {
                             break;
                         }
@@ -145,7 +145,7 @@ pub fn read_into(
                         transitions += 1;
                     }
                     Body::Block(s, a, q, d) => {
-                        code = bodies::block_code(steps, actions, blocks, s, a, q, d);
+                        code = judging::block_code(steps, actions, blocks, s, a, q, d);
                         if code != 0 {
                             break;
                         }
@@ -156,7 +156,7 @@ pub fn read_into(
                         blocks += 1;
                     }
                     Body::Case(s, n, e) => {
-                        code = bodies::case_code(steps, actions, cases, s, n, e);
+                        code = judging::case_code(steps, actions, cases, s, n, e);
                         if code != 0 {
                             break;
                         }
@@ -166,7 +166,7 @@ pub fn read_into(
                         cases += 1;
                     }
                     Body::Edition(x) => {
-                        code = bodies::edition_code(edition, x);
+                        code = judging::edition_code(edition, x);
                         if code != 0 {
                             break;
                         }

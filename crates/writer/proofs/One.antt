@@ -15,10 +15,11 @@ use Rattle.chart.specs.Held.{closingCode}
 use Rattle.chart.specs.declared.chart.Chart.{Chart}
 use Rattle.chart.proofs.held.Sound.{fits, transition-zero, block-fits, case-fits}
 use Rattle.reader.specs.Framing.{lengthAt, kindAt, widths, bodyLength, recordBytes, recordNumber}
-use Rattle.reader.specs.Bodies.{limited, bodyOf, kindOf, fieldsOf, recordOf, bodyAt, fieldsAt}
+use Rattle.judging.specs.Judging.{limited}
+use Rattle.reader.specs.Bodies.{bodyOf, kindOf, fieldsOf, recordOf, bodyAt, fieldsAt}
 use Rattle.reader.specs.Reading.{accepted, withBody, numberIn, readFrom}
-use Rattle.reader.specs.declared.bodies.Body.{Body}
-use Rattle.reader.specs.declared.bodies.Body.the-variants.{Step, Action, Transition, Block, Case, Edition}
+use Rattle.judging.specs.declared.Body.{Body}
+use Rattle.judging.specs.declared.Body.the-variants.{Step, Action, Transition, Block, Case, Edition}
 use Rattle.reader.proofs.framing.Laws.{is-record}
 use Rattle.reader.proofs.reading.Laws.{limited-zero}
 use Rattle.writer.proofs.Standing.{Stands, stands-first, stands-last, stands-whole, Fit, numbers-back, numbers-length}

@@ -19,9 +19,10 @@ use Rattle.chart.specs.declared.chart.Chart.{Chart}
 use Rattle.chart.proofs.held.Laws.{Limits, limits, twice-same}
 use Rattle.chart.proofs.held.Sound.{Zero, is-zero}
 use Rattle.reader.specs.Framing.{recordBytes}
-use Rattle.reader.specs.Bodies.{kindOf, recordOf, limited}
+use Rattle.judging.specs.Judging.{limited}
+use Rattle.reader.specs.Bodies.{kindOf, recordOf}
 use Rattle.reader.specs.Reading.{accepted, withBody, numberIn, readFrom, readChart}
-use Rattle.reader.specs.declared.bodies.Body.{Body}
+use Rattle.judging.specs.declared.Body.{Body}
 use Rattle.reader.specs.declared.reading.Reading.{Reading}
 use Rattle.reader.proofs.reading.Kept.{one-or-two}
 use Rattle.writer.specs.Writing.{stepIn, actionIn, transitionIn, blockIn, caseIn, editionIn, joined, records, stepRecords, actionRecords, transitionRecords, blockRecords, caseRecords, editionRecords, chartRecords, fileOf}

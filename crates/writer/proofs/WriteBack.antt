@@ -17,8 +17,8 @@ use Rattle.reader.specs.Numbers.{le}
 use Rattle.reader.specs.Framing.{lengthAt, kindAt, widths, bodyLength, recordBytes}
 use Rattle.reader.specs.Bodies.{bodyOf, kindOf, fieldsOf, fieldsAt, bodyAt, recordOf}
 use Rattle.reader.specs.Reading.{withBody, numberIn, readChart}
-use Rattle.reader.specs.declared.bodies.Body.{Body}
-use Rattle.reader.specs.declared.bodies.Body.the-variants.{Step, Action, Transition, Block, Case, Edition}
+use Rattle.judging.specs.declared.Body.{Body}
+use Rattle.judging.specs.declared.Body.the-variants.{Step, Action, Transition, Block, Case, Edition}
 use Rattle.reader.proofs.framing.Laws.{Headed, Known}
 use Rattle.reader.proofs.reading.Kept.{Kept, kept-start, older, newest, one-or-two, is-second}
 use Rattle.reader.proofs.reading.Laws.{room, limited-zero}

@@ -13,8 +13,8 @@ use Rattle.chart.specs.Held.{chartCode}
 use Rattle.chart.specs.declared.chart.Chart.{Chart}
 use Rattle.reader.specs.Framing.{bodyLength, recordBytes}
 use Rattle.reader.specs.Bodies.{recordOf}
-use Rattle.reader.specs.declared.bodies.Body.{Body}
-use Rattle.reader.specs.declared.bodies.Body.the-variants.{Step, Action, Transition, Block, Case, Edition}
+use Rattle.judging.specs.declared.Body.{Body}
+use Rattle.judging.specs.declared.Body.the-variants.{Step, Action, Transition, Block, Case, Edition}
 use Rattle.writer.specs.declared.writing.Writing.{Writing}
 
 -- record i of a kind, from its tables

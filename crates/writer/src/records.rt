@@ -6,7 +6,7 @@ ghost use Rattle.sets.specs.Bytes.{Put};
 ghost use Rattle.reader.specs.Numbers.{numbersBytes};
 ghost use Rattle.reader.specs.Framing.{recordBytes};
 ghost use Rattle.reader.specs.Bodies.{recordOf};
-ghost use Rattle.reader.specs.declared.bodies.Body.the-variants.{Step, Action, Transition, Block, Case, Edition};
+ghost use Rattle.judging.specs.declared.Body.the-variants.{Step, Action, Transition, Block, Case, Edition};
 use crate::numbers;
 
 fn put_head(bytes: &mut [u8], at: usize, size: u16, kind: u16) -> usize

@@ -8,7 +8,7 @@ use mir.Syntax.{w32}
 use mir.Val.{toZ}
 use Rattle.reader.specs.Numbers.{le}
 use Rattle.reader.specs.Bodies.{bodyOf, fieldsAt}
-use Rattle.reader.specs.declared.bodies.Body.the-variants.{Step, Action, Transition, Block, Case, Edition}
+use Rattle.judging.specs.declared.Body.the-variants.{Step, Action, Transition, Block, Case, Edition}
 use Rattle.reader.proofs.numbers.Laws.{le-one}
 
 module _ (s : List ℕ) (at : ℕ) where

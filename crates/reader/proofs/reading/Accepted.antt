@@ -18,7 +18,7 @@ use Rattle.chart.proofs.held.Laws.{Limits}
 use Rattle.reader.specs.Framing.{lengthAt, kindAt, bodyLength, recordNumber}
 use Rattle.reader.specs.Bodies.{bodyAt}
 use Rattle.reader.specs.Reading.{refused, accepted, closed, ended, withBody, numberIn, taken, readFrom, readChart}
-use Rattle.reader.specs.declared.bodies.Body.{Body}
+use Rattle.judging.specs.declared.Body.{Body}
 use Rattle.reader.specs.declared.reading.Reading.{Reading}
 use Rattle.reader.proofs.framing.Laws.{Headed, is-headed, Known, is-known}
 use Rattle.reader.proofs.reading.Kept.{Column, Kept, one-or-two, kept-start, kept-step, kept-action, kept-transition, kept-block, kept-case, kept-edition}

@@ -18,7 +18,7 @@ use Rattle.chart.specs.declared.chart.Chart.{Chart}
 use Rattle.chart.proofs.held.Laws.{Limits}
 use Rattle.chart.proofs.held.Sound.{fits}
 use Rattle.reader.specs.Reading.{numberIn}
-use Rattle.reader.specs.declared.bodies.Body.the-variants.{Step, Action, Transition, Block, Case, Edition}
+use Rattle.judging.specs.declared.Body.the-variants.{Step, Action, Transition, Block, Case, Edition}
 use Rattle.reader.proofs.reading.Laws.{room, limited-zero}
 
 -- ---- a column: as long as its limit, with zeros from the count on

@@ -11,10 +11,11 @@ use Rattle.chart.specs.Chart.{emptyChart}
 use Rattle.chart.specs.Held.{closingCode}
 use Rattle.chart.specs.declared.chart.Chart.{Chart}
 use Rattle.reader.specs.Framing.{lengthAt, kindAt, recordNumber}
-use Rattle.reader.specs.Bodies.{bodyAt, limited}
+use Rattle.judging.specs.Judging.{limited}
+use Rattle.reader.specs.Bodies.{bodyAt}
 use Rattle.reader.specs.Reading.{refused, accepted, ended, withBody, numberIn, taken, readFrom, readChart}
-use Rattle.reader.specs.declared.bodies.Body.{Body}
-use Rattle.reader.specs.declared.bodies.Body.the-variants.{Step, Action, Transition, Block, Case, Edition}
+use Rattle.judging.specs.declared.Body.{Body}
+use Rattle.judging.specs.declared.Body.the-variants.{Step, Action, Transition, Block, Case, Edition}
 use Rattle.reader.proofs.framing.Laws.{Found}
 
 -- ---- a body whose number is 0

@@ -16,7 +16,7 @@ use Rattle.chart.specs.Held.{chartCode}
 use Rattle.chart.specs.declared.chart.Chart.{Chart}
 use Rattle.reader.specs.Framing.{recordBytes}
 use Rattle.reader.specs.Bodies.{recordOf}
-use Rattle.reader.specs.declared.bodies.Body.{Body}
+use Rattle.judging.specs.declared.Body.{Body}
 use Rattle.writer.specs.Writing.{stepIn, actionIn, transitionIn, blockIn, caseIn, editionIn, joined, records, stepRecords, actionRecords, transitionRecords, blockRecords, caseRecords, editionRecords, fileOf, fileLength, writeCode, wrote, refused, writeChart}
 use Rattle.writer.specs.declared.writing.Writing.{Writing}
 

@@ -6,7 +6,7 @@ use mir.Syntax.{w32}
 use mir.Val.{toZ}
 use mir.Facts.{toZ-ofZ}
 use borrow.Author.Needs.{sfits-of, needs}
-use Rattle.reader.specs.declared.bodies.Body.the-variants.{Action}
+use Rattle.judging.specs.declared.Body.the-variants.{Action}
 use Rattle.reader.proofs.bodies.Laws.{action-fields}
 use Rattle.reader.proofs.bodies.action_at.Statement.{statement}
 use Rattle.reader.proofs.bodies.action_at.Tie as tie

@@ -15,7 +15,7 @@ use Rattle.chart.specs.Chart.{chartOf}
 use Rattle.chart.specs.declared.chart.Chart.{Chart}
 use Rattle.reader.specs.Framing.{kindAt, recordNumber}
 use Rattle.reader.specs.Reading.{refused, withBody, numberIn, readChart}
-use Rattle.reader.specs.declared.bodies.Body.{Body}
+use Rattle.judging.specs.declared.Body.{Body}
 use Rattle.reader.proofs.framing.Laws.{is-known, Headed, Found, is-found, is-end, is-refused}
 use Rattle.reader.proofs.reading.Laws.{Room, Onward, begin, refused-here, ended-here, ended-surplus, ended-refused, ended-accepted, halted, onward, room}
 use Rattle.reader.proofs.reading.read_into.Statement.{statement}

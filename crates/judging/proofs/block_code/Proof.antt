@@ -1,7 +1,7 @@
 -- By its callees' statements.
 use borrow.Author.Needs.{needs}
-use Rattle.reader.proofs.bodies.block_code.Statement.{statement}
-use Rattle.reader.proofs.bodies.block_code.Tie as tie
+use Rattle.judging.proofs.block_code.Statement.{statement}
+use Rattle.judging.proofs.block_code.Tie as tie
 
 block-fits-requires : tie.Need-block-fits-requires
 block-fits-requires c κs = search needs

@@ -1,7 +1,7 @@
 -- By its callees' statements.
 use borrow.Author.Needs.{needs}
-use Rattle.reader.proofs.bodies.case_code.Statement.{statement}
-use Rattle.reader.proofs.bodies.case_code.Tie as tie
+use Rattle.judging.proofs.case_code.Statement.{statement}
+use Rattle.judging.proofs.case_code.Tie as tie
 
 case-fits-requires : tie.Need-case-fits-requires
 case-fits-requires c κs = search needs

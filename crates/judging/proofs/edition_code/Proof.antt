@@ -1,7 +1,7 @@
 -- By its callees' statements.
 use borrow.Author.Needs.{needs}
-use Rattle.reader.proofs.bodies.edition_code.Statement.{statement}
-use Rattle.reader.proofs.bodies.edition_code.Tie as tie
+use Rattle.judging.proofs.edition_code.Statement.{statement}
+use Rattle.judging.proofs.edition_code.Tie as tie
 
 is-second-requires : tie.Need-is-second-requires
 is-second-requires c κs = search needs

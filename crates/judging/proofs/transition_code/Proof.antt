@@ -1,7 +1,7 @@
 -- By its callees' statements.
 use borrow.Author.Needs.{needs}
-use Rattle.reader.proofs.bodies.transition_code.Statement.{statement}
-use Rattle.reader.proofs.bodies.transition_code.Tie as tie
+use Rattle.judging.proofs.transition_code.Statement.{statement}
+use Rattle.judging.proofs.transition_code.Tie as tie
 
 transition-code-requires : tie.Need-transition-code-requires
 transition-code-requires c κs = search needs

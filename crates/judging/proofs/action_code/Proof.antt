@@ -1,7 +1,7 @@
 -- By its callees' statements.
 use borrow.Author.Needs.{needs}
-use Rattle.reader.proofs.bodies.action_code.Statement.{statement}
-use Rattle.reader.proofs.bodies.action_code.Tie as tie
+use Rattle.judging.proofs.action_code.Statement.{statement}
+use Rattle.judging.proofs.action_code.Tie as tie
 
 action-fits-requires : tie.Need-action-fits-requires
 action-fits-requires c κs = search needs

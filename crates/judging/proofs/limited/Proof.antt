@@ -1,7 +1,7 @@
 -- By its callees' statements.
 use borrow.Author.Needs.{needs}
-use Rattle.reader.proofs.bodies.limited.Statement.{statement}
-use Rattle.reader.proofs.bodies.limited.Tie as tie
+use Rattle.judging.proofs.limited.Statement.{statement}
+use Rattle.judging.proofs.limited.Tie as tie
 
 unless-requires : tie.Need-unless-requires
 unless-requires c κs = search needs

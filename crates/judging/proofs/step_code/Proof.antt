@@ -1,7 +1,7 @@
 -- By its callees' statements.
 use borrow.Author.Needs.{needs}
-use Rattle.reader.proofs.bodies.step_code.Statement.{statement}
-use Rattle.reader.proofs.bodies.step_code.Tie as tie
+use Rattle.judging.proofs.step_code.Statement.{statement}
+use Rattle.judging.proofs.step_code.Tie as tie
 
 step-fits-requires : tie.Need-step-fits-requires
 step-fits-requires c κs = search needs
