@@ -48,7 +48,8 @@ enum tw_code {
 	TW_FEW_OUTPUTS = 15,	/* fewer than 32 outputs lent */
 	TW_BAD_TRACE = 16,	/* a bad record in a trace: for printed runs, no call below gives it */
 	TW_TOO_FEW_BYTES = 17,	/* fewer bytes lent than the chart's file takes */
-	TW_UNEVEN_LISTS = 18	/* a shift's lists differ in length, or are longer than 4,096 */
+	TW_UNEVEN_LISTS = 18,	/* a shift's lists differ in length, or are longer than 4,096 */
+	TW_OTHER_INDEX = 20	/* an index that is not exactly that of this chart */
 };
 
 /* Why a transition was not taken in a cycle; the first in this order counts. README.md says what to look at. */
@@ -127,6 +128,21 @@ enum tw_code tw_release(const struct tw_chart *chart, struct tw_run *run);
    made, and everything stays. Refused by 11: `accepted` were made, the one with that number was refused, and everything is as those left it. */
 enum tw_code tw_shift(const struct tw_chart *chart, struct tw_run *run, const uint32_t *clocks, size_t nclocks, const uint32_t *inputs,
 	size_t ninputs, uint64_t *activities, size_t nactivities, int32_t *outputs, size_t lent, size_t *accepted);
+
+/* An index of a chart: for every step, the set of transitions that have it as a source. */
+struct tw_index {
+	uint64_t leaving[TW_STEPS];
+};
+
+/* Builds a chart's index, once after reading. Accepted: the word of each step, and 0 beyond the last. Refused by the chart's numbers: all zeros. */
+enum tw_code tw_index(const struct tw_chart *chart, struct tw_index *index);
+
+/* Do what tw_cycle and tw_shift do, in everything, and consult only the transitions that leave some active step. Refused as they are, and by 20 after
+   the chart's numbers and before 12. A shift tests the index once, and that is where it pays. */
+enum tw_code tw_cycle_by(const struct tw_chart *chart, const struct tw_index *index, struct tw_run *run, uint32_t clock, uint32_t inputs,
+	int32_t *outputs, size_t lent, uint64_t *taken, uint8_t reasons[TW_TRANSITIONS]);
+enum tw_code tw_shift_by(const struct tw_chart *chart, const struct tw_index *index, struct tw_run *run, const uint32_t *clocks, size_t nclocks,
+	const uint32_t *inputs, size_t ninputs, uint64_t *activities, size_t nactivities, int32_t *outputs, size_t lent, size_t *accepted);
 
 struct tw_tallied {
 	size_t passed, failed, notrun;

@@ -10,6 +10,10 @@
 	(c)->qualifier, (c)->duration, (c)->casestep, (c)->signal, (c)->expected
 #define CHART_OF(c) (c)->steps, (c)->actions, (c)->transitions, (c)->blocks, (c)->cases, TABLES_OF(c), (c)->edition
 
+/* An index as INDEX has it, and none: of its words, which are as valid as any, no one is read. */
+#define INDEX_OF(x) (x)->leaving, TW_STEPS
+#define NO_INDEX(c) (c)->sources, 0
+
 /* A run's as RUN has them. */
 #define RUN_OF(r) \
 	&(r)->clock, &(r)->active, &(r)->activity, &(r)->stored, &(r)->latched, (r)->counters, (r)->timers, &(r)->good, &(r)->bad, &(r)->hold
@@ -37,7 +41,7 @@ enum tw_code tw_start(const struct tw_chart *chart, struct tw_run *run, uint32_t
 enum tw_code tw_cycle(const struct tw_chart *chart, struct tw_run *run, uint32_t clock, uint32_t inputs, int32_t *outputs, size_t lent,
 	uint64_t *taken, uint8_t reasons[TW_TRANSITIONS])
 {
-	return tolwaziho_cycle(CHART_OF(chart), RUN_OF(run), clock, inputs, outputs, lent, taken, reasons);
+	return tolwaziho_cycle(CHART_OF(chart), NO_INDEX(chart), RUN_OF(run), clock, inputs, outputs, lent, taken, reasons);
 }
 
 /* The key turned, to hold or back. */
@@ -60,7 +64,27 @@ enum tw_code tw_release(const struct tw_chart *chart, struct tw_run *run)
 enum tw_code tw_shift(const struct tw_chart *chart, struct tw_run *run, const uint32_t *clocks, size_t nclocks, const uint32_t *inputs,
 	size_t ninputs, uint64_t *activities, size_t nactivities, int32_t *outputs, size_t lent, size_t *accepted)
 {
-	return tolwaziho_shift(CHART_OF(chart), RUN_OF(run), clocks, nclocks, inputs, ninputs, activities, nactivities, outputs, lent, accepted);
+	return tolwaziho_shift(CHART_OF(chart), NO_INDEX(chart), RUN_OF(run), clocks, nclocks, inputs, ninputs, activities, nactivities, outputs, lent,
+		accepted);
+}
+
+/* The chart's own test, whose number the index goes by. */
+enum tw_code tw_index(const struct tw_chart *chart, struct tw_index *index)
+{
+	return tolwaziho_index(tolwaziho_test(CHART_OF(chart)), chart->transitions, chart->sources, index->leaving);
+}
+
+enum tw_code tw_cycle_by(const struct tw_chart *chart, const struct tw_index *index, struct tw_run *run, uint32_t clock, uint32_t inputs,
+	int32_t *outputs, size_t lent, uint64_t *taken, uint8_t reasons[TW_TRANSITIONS])
+{
+	return tolwaziho_cycle(CHART_OF(chart), INDEX_OF(index), RUN_OF(run), clock, inputs, outputs, lent, taken, reasons);
+}
+
+enum tw_code tw_shift_by(const struct tw_chart *chart, const struct tw_index *index, struct tw_run *run, const uint32_t *clocks, size_t nclocks,
+	const uint32_t *inputs, size_t ninputs, uint64_t *activities, size_t nactivities, int32_t *outputs, size_t lent, size_t *accepted)
+{
+	return tolwaziho_shift(CHART_OF(chart), INDEX_OF(index), RUN_OF(run), clocks, nclocks, inputs, ninputs, activities, nactivities, outputs,
+		lent, accepted);
 }
 
 enum tw_code tw_tally(const struct tw_chart *chart, const struct tw_run *r, struct tw_tallied *tallied)
@@ -107,6 +131,7 @@ const char *tw_name(enum tw_code code)
 	case TW_BAD_TRACE: return "bad trace";
 	case TW_TOO_FEW_BYTES: return "too few bytes";
 	case TW_UNEVEN_LISTS: return "uneven lists";
+	case TW_OTHER_INDEX: return "other index";
 	}
 	return "unknown";
 }

@@ -8,7 +8,7 @@ use Rattle.sets.proofs.Unique.{one-answer}
 use Rattle.chart.specs.declared.chart.Chart.{Chart}
 use Rattle.run.specs.Apart.{wordsOf}
 use Rattle.run.specs.declared.run.Run.{Run}
-use Rattle.cycle.specs.Cycling.{startOf, cycleOf, outputsAfter}
+use Rattle.cycle.specs.Cycling.{startOf, cycleOf, cycleBy, outputsAfter}
 use Rattle.cycle.specs.declared.cycling.Cycled.{Cycled}
 use Rattle.calls.specs.Starting.{begun, startOn}
 use Rattle.calls.specs.declared.starting.Started.{Started}
@@ -24,6 +24,10 @@ start-unique c clock r q out f g = both c (startOf c clock (length out)) r q out
 pub cycle-unique : (c : Chart) (run : Run) (clock inputs : ℕ) (r q : Cycled) (out f g : List ℤ) → r ≡ cycleOf c run clock inputs (length out) → q ≡ cycleOf c run clock inputs (length out)
     → f ≡ outputsAfter c r out → g ≡ outputsAfter c q out → (r ≡ q) × (f ≡ g)
 cycle-unique c run clock inputs r q out f g = both c (cycleOf c run clock inputs (length out)) r q out f g
+
+pub cycle-by-unique : (c : Chart) (index : List ℕ) (run : Run) (clock inputs : ℕ) (r q : Cycled) (out f g : List ℤ) → r ≡ cycleBy c index run clock inputs (length out) → q ≡ cycleBy c index run clock inputs (length out)
+    → f ≡ outputsAfter c r out → g ≡ outputsAfter c q out → (r ≡ q) × (f ≡ g)
+cycle-by-unique c index run clock inputs r q out f g = both c (cycleBy c index run clock inputs (length out)) r q out f g
 
 -- on lent tables: the answer and the outputs together
 pub start-on-unique : (c : Chart) (clock : ℕ) (out : List ℤ) (r q : Started) (f g : List ℤ) → _≡_ {A = Cycled × List ℤ} (begun r, f) (startOn c clock out)

@@ -1,13 +1,21 @@
-// One cycle, of a chart and a run by value, with the chart's tables lent to what is below.
+// One cycle, of a chart and a run by value, with the chart's tables lent to what is below; with an index (document 02, request ix), or without.
 ghost use mathlib.Core.Path.{_≡_};
 ghost use lib.ListN.{length};
-ghost use Rattle.cycle.specs.Cycling.{cycleOf, outputsAfter};
+ghost use Rattle.cycle.specs.Cycling.{cycleOf, cycleBy, outputsAfter};
 use chart::Chart;
 use cycle::Cycled;
 use run::Run;
 
-pub fn cycle(chart: Chart, run: Run, clock: u32, inputs: u32, outputs: &mut [i32]) -> Cycled
-    ensures { λ r. ⌜ (r ≡ cycleOf chart run clock inputs (length (now (outputs .entry)))) × (now (outputs .exit) ≡ outputsAfter chart r (now (outputs .entry))) ⌝ }
+// An empty list is no index.
+fn cycle_with(
+    chart: Chart,
+    index: &[u64],
+    run: Run,
+    clock: u32,
+    inputs: u32,
+    outputs: &mut [i32],
+) -> Cycled
+    ensures { λ r. ⌜ (r ≡ cycleBy chart (now (index .entry)) run clock inputs (length (now (outputs .entry)))) × (now (outputs .exit) ≡ outputsAfter chart r (now (outputs .entry))) ⌝ }
 {
     let counters = run.counters;
     let timers = run.timers;
@@ -32,7 +40,7 @@ pub fn cycle(chart: Chart, run: Run, clock: u32, inputs: u32, outputs: &mut [i32
     let clocks = [clock];
     let given = [inputs];
     let mut activities = [0u64];
-    let o = cycle::cycles_on(
+    let o = stepping::cycles_on(
         chart.steps,
         chart.actions,
         chart.transitions,
@@ -54,6 +62,7 @@ pub fn cycle(chart: Chart, run: Run, clock: u32, inputs: u32, outputs: &mut [i32
         &chart.signal,
         &chart.expected,
         chart.edition,
+        index,
         words,
         &mut counts,
         &mut times,
@@ -70,4 +79,24 @@ pub fn cycle(chart: Chart, run: Run, clock: u32, inputs: u32, outputs: &mut [i32
         reasons,
         run: run::run_of(after, counts, times),
     }
+}
+
+pub fn cycle(chart: Chart, run: Run, clock: u32, inputs: u32, outputs: &mut [i32]) -> Cycled
+    ensures { λ r. ⌜ (r ≡ cycleOf chart run clock inputs (length (now (outputs .entry)))) × (now (outputs .exit) ≡ outputsAfter chart r (now (outputs .entry))) ⌝ }
+{
+    let none = [0u64; 0];
+    cycle_with(chart, &none, run, clock, inputs, outputs)
+}
+
+pub fn cycle_by(
+    chart: Chart,
+    index: &[u64; 64],
+    run: Run,
+    clock: u32,
+    inputs: u32,
+    outputs: &mut [i32],
+) -> Cycled
+    ensures { λ r. ⌜ (r ≡ cycleBy chart (now (index .entry)) run clock inputs (length (now (outputs .entry)))) × (now (outputs .exit) ≡ outputsAfter chart r (now (outputs .entry))) ⌝ }
+{
+    cycle_with(chart, index, run, clock, inputs, outputs)
 }

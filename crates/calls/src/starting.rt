@@ -96,7 +96,7 @@ pub fn start_on<'a>(
         left: 0,
         kept: 0,
     };
-    let acts = cycle::settle(
+    let acts = stepping::settle(
         outputs,
         actions,
         output,

@@ -10,12 +10,13 @@ use lib.Seq.{getD-set-same, getD-set-other}
 use lib.Dec.{ltb, eqb}
 use borrow.Author.Tests.{ltb-true, lt-ltb, le-ltb, eqb-true, eqb-false}
 use Rattle.sets.specs.Loops.{orElse, table, turns}
-use Rattle.sets.specs.Sets.{has, Within, Apart}
+use Rattle.sets.specs.Sets.{has, Within, Apart, among}
 use Rattle.sets.proofs.Loops.{bool-eq, and-true, turns-start, turns-more, length-table, getD-table, is-table, true-all}
 use Rattle.sets.proofs.Members.{has-zero}
+use Rattle.sets.proofs.Visits.{turns-none-from, turns-same}
 use Rattle.sets.proofs.Below.{has-union, within-has, apart-has, either, never}
 use Rattle.fields.specs.Fields.{unless, second}
-use Rattle.choice.specs.Choice.{ripe, reason, tested, takes, choosingAt, noneTaken, chosen, reasonAt, held, reasonUnder, reasonsOf, heldReasons}
+use Rattle.choice.specs.Choice.{ripe, reason, tested, takes, choosingAt, noneTaken, chosen, chosenFrom, reasonAt, held, reasonUnder, reasonsOf, heldReasons}
 use Rattle.choice.specs.declared.Choice.{Choice}
 
 -- ---- a reason is 0 exactly if every test holds
@@ -114,7 +115,7 @@ module _ (ch : Choice) (s t on off w : ℕ) (counts : List ℕ) (active signals 
 
 -- ---- the reasons so far, and 0 beyond
 
-ltb-same : (k m n : ℕ) → (k < m → k < n) → (k < n → k < m) → ltb k m ≡ ltb k n
+pub ltb-same : (k m n : ℕ) → (k < m → k < n) → (k < n → k < m) → ltb k m ≡ ltb k n
 ltb-same k m n f g = bool-eq (ltb k m) (ltb k n) (λ e. lt-ltb k n (f (ltb-true k m e))) (λ e. lt-ltb k m (g (ltb-true k n e)))
 
 pub reason-under-most : (hold : ℕ) (ch : Choice) (s t on off w : ℕ) (counts : List ℕ) (active signals : ℕ) → reasonUnder hold (reason ch s t on off w counts active signals) ≤ 7
@@ -288,3 +289,35 @@ module _ (edition : ℕ) (sources targets on off wait counts : List ℕ) (active
       go : (b : Bool) → has (so-far n .claimed) k ≡ b → b ≡ false
       go true e = never (sym (fair n .claimed d e) ∙ fair n .left h)
       go false e = refl
+
+-- ---- the transitions that are consulted (document 02, request ix)
+
+module _ (edition : ℕ) (sources targets on off wait counts : List ℕ) (active signals : ℕ) where
+  abbrev one : ℕ → Choice → Choice
+  one = choosingAt edition sources targets on off wait counts active signals
+
+  -- a transition with a source that is not active is not taken: its reason is 1
+  not-taken : (t : ℕ) (ch : Choice) → Within (getD sources t 0) active ≡ false → one t ch ≡ ch
+  not-taken t ch e = rw (← not-active ch (getD sources t 0) (tested edition (getD targets t 0)) (getD on t 0) (getD off t 0) (getD wait t 0) counts active signals e)
+
+  -- "A cycle that consults only transitions leaving some active step takes the same ones": whoever consults, of n transitions, each whose sources
+  -- are all active
+  pub consulted-enough : (n consulted : ℕ) → n ≤ 64 → ((t : ℕ) → t < 64 → has consulted t ≡ true → t < n)
+      → ((t : ℕ) → t < n → has consulted t ≡ false → Within (getD sources t 0) active ≡ false)
+      → chosenFrom edition consulted sources targets on off wait counts active signals ≡ chosen edition n sources targets on off wait counts active signals
+  unfolding chosenFrom chosen
+  consulted-enough n consulted l only enough = turns-none-from (among consulted one) noneTaken n 64 l beyond ∙ turns-same (among consulted one) one noneTaken n each
+    where
+      each : (t : ℕ) → t < n → (ch : Choice) → among consulted one t ch ≡ one t ch
+      each t m ch = go (has consulted t) refl
+        where
+          go : (b : Bool) → has consulted t ≡ b → cond b (one t ch) ch ≡ one t ch
+          go true e = refl
+          go false e = sym (not-taken t ch (enough t m e))
+
+      beyond : (t : ℕ) → n ≤ t → t < 64 → (ch : Choice) → among consulted one t ch ≡ ch
+      beyond t m k ch = go (has consulted t) refl
+        where
+          go : (b : Bool) → has consulted t ≡ b → cond b (one t ch) ch ≡ ch
+          go true e = absurd (omega (arith, only t k e))
+          go false e = refl

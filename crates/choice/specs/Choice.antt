@@ -8,7 +8,7 @@ use mathlib.Core.Bool.{Bool, _&&_, _||_, not, cond}
 use lib.ListN.{getD}
 use lib.Dec.{leb, ltb, eqb}
 use Rattle.sets.specs.Loops.{all, orElse, table, turns}
-use Rattle.sets.specs.Sets.{has, Within, Apart, union, insert}
+use Rattle.sets.specs.Sets.{has, Within, Apart, union, insert, among}
 use Rattle.fields.specs.Fields.{unless, second}
 use Rattle.choice.specs.declared.Choice.{Choice}
 
@@ -56,6 +56,11 @@ choosingAt edition sources targets on off wait counts active signals t choice =
 unfoldable pub chosen : ℕ → ℕ → List ℕ → List ℕ → List ℕ → List ℕ → List ℕ → List ℕ → ℕ → ℕ → Choice
 chosen edition n sources targets on off wait counts active signals =
     turns (choosingAt edition sources targets on off wait counts active signals) noneTaken n
+
+-- document 02, request (ix): of some transitions only, those that are consulted, in number order
+unfoldable pub chosenFrom : ℕ → ℕ → List ℕ → List ℕ → List ℕ → List ℕ → List ℕ → List ℕ → ℕ → ℕ → Choice
+chosenFrom edition consulted sources targets on off wait counts active signals =
+    turns (among consulted (choosingAt edition sources targets on off wait counts active signals)) noneTaken 64
 
 -- transition t's, after those before it
 abbrev pub reasonAt : ℕ → List ℕ → List ℕ → List ℕ → List ℕ → List ℕ → List ℕ → ℕ → ℕ → ℕ → ℕ

@@ -2,6 +2,7 @@ pub mod Answers
 pub mod AtLeast
 pub mod Editions
 pub mod Fair
+pub mod Indexes
 pub mod Ledger
 pub mod Marks
 pub mod Moves

@@ -230,8 +230,8 @@ module _ (c : Chart) (r : Run) (clocks inputs words : List ℕ) (out : List ℤ)
   shift-made = either-way (λ d. Made (d .0 .accepted) (d .0 .run) (d .1) (d .2)) (λ d s. s .made) none-made
 
   -- what holds of each number of the tests and of a cycle holds of the shift's
-  each : (P : ℕ → Type 0) → P 0 → P 4 → P 5 → P 6 → P 7 → P 9 → P 8 → P 15 → P 12 → P 18 → P 11 → P (done .0 .code)
-  each P p0 p4 p5 p6 p7 p9 p8 p15 p12 p18 p11 =
+  pub shift-each : (P : ℕ → Type 0) → P 0 → P 4 → P 5 → P 6 → P 7 → P 9 → P 8 → P 15 → P 12 → P 18 → P 11 → P (done .0 .code)
+  shift-each P p0 p4 p5 p6 p7 p9 p8 p15 p12 p18 p11 =
       either-way (λ d. P (d .0 .code))
       (λ d s.
       let k = d .0 .accepted in
@@ -241,7 +241,7 @@ module _ (c : Chart) (r : Run) (clocks inputs words : List ℕ) (out : List ℤ)
   pub shift-answers : ShiftAnswer done
   unfolding singly turns
   shift-answers = record {
-    numbered = each (λ n. oneOf (0 ∷ shiftNumbers) n ≡ true) refl refl refl refl refl refl refl refl refl refl refl;
+    numbered = shift-each (λ n. oneOf (0 ∷ shiftNumbers) n ≡ true) refl refl refl refl refl refl refl refl refl refl refl;
     few-outputs = λ h. away 15 (rw (lt-leb 32 (length out) h)) (λ q. omega arith);
     bad-chart = λ h z. away (chartCode c) (simp (le-leb 32 (length out) h, ne-eqb (chartCode c) 0 z)) z;
     other-run = λ h e f. away 12 (rw (le-leb 32 (length out) h, e, f)) (λ q. omega arith);

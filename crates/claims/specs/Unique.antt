@@ -1,16 +1,16 @@
 -- "Prove that two answers allowed by one statement are equal": each public function of the parts, by the statement in its source.
-use Prim.Native.Nat.{ℕ, _%_, _≤_, _<_, min}
+use Prim.Native.Nat.{ℕ, _%_, _^_, _≤_, _<_, min}
 use mathlib.Core.Bool.{Bool, true, false, cond}
 use mathlib.Core.List.{List}
 use mathlib.Core.Path.{_≡_}
-use lib.Dec.{eqb}
+use lib.Dec.{eqb, ltb}
 use lib.IntN.{ℤ}
 use lib.ListN.{length, getD}
 use mir.Syntax.{w32}
 use mir.Val.{toZ, ofZ}
 use Rattle.sets.specs.Sets.{has, Within, Apart, Below, union, inter, minus, insert, beyond, first, remove, size}
 use Rattle.sets.proofs.Unique.{is-in-unique, is-within-unique, is-apart-unique, names-below-unique, joined-unique, common-unique, without-unique, with-unique, with-if-unique, is-in-mod-unique, with-if-mod-unique, beyond-unique, first-unique, without-first-unique, size-unique}
-use Rattle.sets.specs.Loops.{orElse}
+use Rattle.sets.specs.Loops.{all, orElse}
 use Rattle.fields.specs.Fields.{timed, unless, kindFits, stepFits, actionFits, transitionCode, durationFits, blockFits, caseFits, editionFits, second}
 use Rattle.fields.proofs.Unique.{is-timed-unique, or-else-unique, unless-unique, kind-fits-unique, step-fits-unique, action-fits-unique, transition-passes-unique, transition-code-unique, duration-fits-unique, block-fits-unique, case-fits-unique, edition-fits-unique, is-second-unique}
 use Rattle.chart.specs.Held.{closingCode, heldCode, chartCode}
@@ -28,9 +28,13 @@ use Rattle.reader.specs.declared.reading.Read.{Read}
 use Rattle.reader.specs.declared.reading.Reading.{Reading}
 use Rattle.reader.proofs.framing.Laws.{record-at-unique}
 use Rattle.reader.proofs.Unique.{from-unique, signed-unique, bits-of-unique, read-chart-unique, read-into-unique}
-use Rattle.choice.specs.Choice.{choosing, chosenUnder, reasonsOf, heldReasons}
+use Rattle.choice.specs.Choice.{choosing, chosenUnder, chosenFrom, reasonsOf, heldReasons}
 use Rattle.choice.specs.declared.Choice.{Choice}
 use Rattle.choice.proofs.Unique.{choose-one-unique, explain-unique, hold-all-unique}
+use Rattle.index.specs.Building.{builtAfter, builtOf, indexedAs}
+use Rattle.index.specs.Consulting.{indexAfter, consulted}
+use Rattle.index.specs.declared.building.Indexed.{Indexed}
+use Rattle.index.proofs.Unique.{index-of-unique as built-unique, tolwaziho-index-unique, index-after-unique, consulted-unique}
 use Rattle.acting.specs.Acting.{requestAt, putting, asked, acted}
 use Rattle.acting.specs.declared.Steps.{Steps}
 use Rattle.acting.specs.declared.Request.{Request}
@@ -52,20 +56,21 @@ use Rattle.passes.specs.Moving.{signalsOf, marksOf}
 use Rattle.passes.specs.Outputs.{written}
 use Rattle.passes.specs.Explaining.{keptIf}
 use Rattle.passes.specs.declared.moving.Marks.{Marks}
-use Rattle.cycle.specs.Cycling.{readyAfter, startOf, cycleOf, outputsAfter}
+use Rattle.cycle.specs.Cycling.{readyAfter, startOf, cycleOf, cycleBy, outputsAfter}
 use Rattle.cycle.specs.Stepping.{allKept}
 use Rattle.calls.specs.Starting.{begun, startOn}
-use Rattle.cycle.specs.Calling.{InParts, inParts, callsOn}
+use Rattle.cycle.specs.Calling.{InParts, inParts, callsBy}
 use Rattle.cycle.specs.declared.cycling.Cycled.{Cycled}
 use Rattle.calls.specs.declared.starting.Started.{Started}
-use Rattle.passes.proofs.Unique.{elapsed-unique, step-time-unique, choose-unique, steps-of-unique, signals-of-unique, marks-of-unique, ask-blocks-unique, write-outputs-unique, explain-unique as call-explain-unique, keep-if-unique}
-use Rattle.cycle.proofs.Unique.{ready-code-unique, settle-unique, cycles-on-unique}
-use Rattle.calls.proofs.Unique.{start-unique, cycle-unique, start-on-unique}
+use Rattle.passes.proofs.Unique.{elapsed-unique, step-time-unique, choose-unique, choose-from-unique, steps-of-unique, signals-of-unique, marks-of-unique, ask-blocks-unique, write-outputs-unique, explain-unique as call-explain-unique, keep-if-unique}
+use Rattle.cycle.proofs.Unique.{ready-code-unique}
+use Rattle.stepping.proofs.Unique.{settle-unique, cycles-on-unique}
+use Rattle.calls.proofs.Unique.{start-unique, cycle-unique, cycle-by-unique, start-on-unique}
 use Rattle.key.specs.Turning.{turnOf}
 use Rattle.key.specs.declared.turning.Turned.{Turned}
 use Rattle.key.proofs.Unique.{turn-unique}
-use Rattle.shift.specs.Shifting.{Done, listsCode, clocksTaken, shiftOf}
-use Rattle.shift.proofs.Unique.{lists-code-unique, clocks-taken-unique, shift-unique}
+use Rattle.shift.specs.Shifting.{Done, listsCode, clocksTaken, shiftOf, shiftBy}
+use Rattle.shift.proofs.Unique.{lists-code-unique, clocks-taken-unique, shift-unique, shift-by-unique}
 use Rattle.trace.specs.Tracing.{callAt, numberOf, traceNumber}
 use Rattle.trace.specs.declared.tracing.Call.{Call}
 use Rattle.trace.proofs.Unique.{call-at-unique}
@@ -163,6 +168,13 @@ pub record ChoiceUnique : Type 0 where
       → One (λ (exit : List ℕ). exit ≡ reasonsOf 0 edition n sources targets on off wait counts active signals)
   pub hold-all : (n : ℕ) → One (λ (exit : List ℕ). exit ≡ heldReasons n)
 
+-- index/src: building, consulting
+pub record IndexUnique : Type 0 where
+  pub index-of : (chart : Chart) → One (λ (r : Indexed). r ≡ builtOf chart)
+  pub tolwaziho-index : (held transitions : ℕ) (sources : List ℕ) → Both (λ (r : ℕ) (exit : List ℕ). indexedAs r exit ≡ builtAfter held transitions sources)
+  pub index-after : (held n : ℕ) (sources index : List ℕ) → One (λ (r : ℕ). (r ≡ indexAfter held n sources index) × (r ≡ 0 → (length index ≡ 0 → ⊥) → all (λ t. ltb (getD sources t 0) (2 ^ 64)) (min n 64) ≡ true))
+  pub consulted : (n : ℕ) (index : List ℕ) (active : ℕ) → One (λ (r : ℕ). r ≡ consulted n index active)
+
 -- acting/src/lib.rt
 pub record ActingUnique : Type 0 where
   pub asks : (qualifier duration step action : ℕ) (counts times : List ℕ) (steps : Steps)
@@ -190,6 +202,8 @@ pub record PassesUnique : Type 0 where
   pub step-time : (hold e : ℕ) → One (λ (r : ℕ). r ≡ stepTime hold e)
   pub choose : (hold edition n : ℕ) (sources targets on off wait counts : List ℕ) (active signals : ℕ)
       → One (λ (r : Choice). r ≡ chosenUnder hold edition (min n 64) sources targets on off wait counts active signals)
+  pub choose-from : (edition consulted : ℕ) (sources targets on off wait counts : List ℕ) (active signals : ℕ)
+      → One (λ (r : Choice). r ≡ chosenFrom edition consulted sources targets on off wait counts active signals)
   pub steps-of : (active : ℕ) (choice : Choice) → One (λ (r : Steps). r ≡ stepsOf active choice)
   pub signals-of : (inputs activity : ℕ) → One (λ (r : ℕ). r ≡ signalsOf inputs activity)
   pub marks-of : (n : ℕ) (step signal expected : List ℕ) (left signals : ℕ)
@@ -203,14 +217,17 @@ pub record PassesUnique : Type 0 where
   pub keep-if : (code : ℕ) (reasons : List ℕ) → One (λ (exit : List ℕ). exit ≡ keptIf code reasons)
   pub elapsed : (last new : ℕ) → One (λ (r : ℕ). r ≡ elapsed last new)
 
--- cycle/src: calling, cycling, stepping
+-- cycle/src: cycling
 pub record CycleUnique : Type 0 where
   pub ready-code : (held steps actions cases : ℕ) (words : Words) (counts times : List ℕ) (outputs : ℕ)
       → One (λ (r : ℕ). (r ≡ readyAfter held steps actions cases (runOf words counts times) outputs) × (length counts ≡ 64) × (length times ≡ 32))
+
+-- stepping/src: calling, stepping
+pub record SteppingUnique : Type 0 where
   pub settle : (outputs : List ℤ) (actions : ℕ) (output : List ℕ) (value : List ℤ) (blocks : ℕ) (blockstep blockaction qualifier duration counts times : List ℕ) (steps : Steps) (stored latched : ℕ)
       → Both (λ (r : Acted) (exit : List ℤ). (r ≡ acted (asked (min blocks 256) (rests 64 blockstep) (rests 32 blockaction) qualifier duration counts times (allKept steps)) stored latched) × (exit ≡ written (min actions 32) (rests 32 output) value (r .activity) outputs))
-  pub cycles-on : (lent : Chart) (words : Words) (counts times clocks inputs activities : List ℕ) (outputs : List ℤ)
-      → One (λ (r : InParts). r ≡ inParts (callsOn lent (runOf words counts times) clocks inputs activities outputs))
+  pub cycles-on : (lent : Chart) (index : List ℕ) (words : Words) (counts times clocks inputs activities : List ℕ) (outputs : List ℤ)
+      → One (λ (r : InParts). r ≡ inParts (callsBy lent index (runOf words counts times) clocks inputs activities outputs))
 
 -- calls/src: cycling, starting
 pub record CallsUnique : Type 0 where
@@ -218,6 +235,8 @@ pub record CallsUnique : Type 0 where
       → Both (λ (r : Cycled) (exit : List ℤ). (r ≡ startOf chart clock (length outputs)) × (exit ≡ outputsAfter chart r outputs))
   pub cycle : (chart : Chart) (run : Run) (clock inputs : ℕ) (outputs : List ℤ)
       → Both (λ (r : Cycled) (exit : List ℤ). (r ≡ cycleOf chart run clock inputs (length outputs)) × (exit ≡ outputsAfter chart r outputs))
+  pub cycle-by : (chart : Chart) (index : List ℕ) (run : Run) (clock inputs : ℕ) (outputs : List ℤ)
+      → Both (λ (r : Cycled) (exit : List ℤ). (r ≡ cycleBy chart index run clock inputs (length outputs)) × (exit ≡ outputsAfter chart r outputs))
   pub start-on : (lent : Chart) (clock : ℕ) (outputs : List ℤ) → Both (λ (r : Started) (exit : List ℤ). (begun r, exit) ≡ startOn lent clock outputs)
 
 -- key/src: turning
@@ -231,6 +250,7 @@ pub record ShiftUnique : Type 0 where
   pub lists-code : (clocks inputs words : ℕ) → One (λ (r : ℕ). r ≡ listsCode clocks inputs words)
   pub clocks-taken : (code clocks : ℕ) → One (λ (r : ℕ). (r ≡ clocksTaken code clocks) × (r ≤ clocks))
   pub shift : (chart : Chart) (run : Run) (clocks inputs words : List ℕ) (outputs : List ℤ) → One (λ (r : Done). r ≡ shiftOf chart run clocks inputs words outputs)
+  pub shift-by : (chart : Chart) (index : List ℕ) (run : Run) (clocks inputs words : List ℕ) (outputs : List ℤ) → One (λ (r : Done). r ≡ shiftBy chart index run clocks inputs words outputs)
 
 -- trace/src: tracing
 pub record TraceUnique : Type 0 where
@@ -261,10 +281,12 @@ pub record Unique : Type 0 where
   pub judging : JudgingUnique
   pub reader : ReaderUnique
   pub choice : ChoiceUnique
+  pub index : IndexUnique
   pub acting : ActingUnique
   pub run : RunUnique
   pub passes : PassesUnique
   pub cycle : CycleUnique
+  pub stepping : SteppingUnique
   pub calls : CallsUnique
   pub key : KeyUnique
   pub shift : ShiftUnique
@@ -333,6 +355,7 @@ unique = record {
     read-into = read-into-unique;
   };
   choice = record { choose-one = choose-one-unique; explain = explain-unique; hold-all = hold-all-unique };
+  index = record { index-of = built-unique; tolwaziho-index = tolwaziho-index-unique; index-after = λ held n sources index r q a b. index-after-unique held n sources index r q (a .0) (b .0); consulted = consulted-unique };
   acting = record { asks = asks-unique; put = put-unique; act = act-unique };
   run = record {
     StepCounter-longer = λ self e. counter-longer-unique e self;
@@ -350,6 +373,7 @@ unique = record {
     elapsed = elapsed-unique;
     step-time = step-time-unique;
     choose = λ hold edition n. choose-unique hold edition (min n 64);
+    choose-from = choose-from-unique;
     steps-of = steps-of-unique;
     signals-of = signals-of-unique;
     marks-of = λ n step signal. marks-of-unique (min n 64) (rests 64 step) (rests 64 signal);
@@ -360,14 +384,17 @@ unique = record {
   };
   cycle = record {
     ready-code = λ held steps actions cases words counts times outputs r q a b. ready-code-unique held steps actions cases (runOf words counts times) outputs r q (a .0) (b .0);
+  };
+  stepping = record {
     settle = λ outputs actions output value blocks blockstep blockaction qualifier duration counts times steps stored latched r q f g a b.
         settle-unique (acted (asked (min blocks 256) (rests 64 blockstep) (rests 32 blockaction) qualifier duration counts times (allKept steps)) stored latched)
         (min actions 32) (rests 32 output) value r q outputs f g (a .0) (b .0) (a .1) (b .1);
-    cycles-on = λ lent words counts times. cycles-on-unique lent (runOf words counts times);
+    cycles-on = λ lent index words counts times. cycles-on-unique lent index (runOf words counts times);
   };
   calls = record {
     start = λ chart clock outputs r q f g a b. start-unique chart clock r q outputs f g (a .0) (b .0) (a .1) (b .1);
     cycle = λ chart run clock inputs outputs r q f g a b. cycle-unique chart run clock inputs r q outputs f g (a .0) (b .0) (a .1) (b .1);
+    cycle-by = λ chart index run clock inputs outputs r q f g a b. cycle-by-unique chart index run clock inputs r q outputs f g (a .0) (b .0) (a .1) (b .1);
     start-on = start-on-unique;
   };
   key = record { hold = turn-unique true; release = turn-unique false; turn = turn-unique };
@@ -375,6 +402,7 @@ unique = record {
     lists-code = lists-code-unique;
     clocks-taken = λ code clocks r q a b. clocks-taken-unique code clocks r q (a .0) (b .0);
     shift = shift-unique;
+    shift-by = shift-by-unique;
   };
   trace = record { call-at = call-at-unique };
   tally = record {

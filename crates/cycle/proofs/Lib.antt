@@ -1,2 +1,3 @@
 pub mod Unique
 pub mod bounds
+pub mod stepping

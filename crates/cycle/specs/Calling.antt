@@ -10,7 +10,7 @@ use Rattle.sets.specs.Loops.{turns}
 use Rattle.chart.specs.declared.chart.Chart.{Chart}
 use Rattle.run.specs.Apart.{wordsOf, countsOf, timesOf}
 use Rattle.run.specs.declared.run.Run.{Run}
-use Rattle.cycle.specs.Cycling.{readyCode, cycleOn}
+use Rattle.cycle.specs.Cycling.{readyCode, indexedCode, cycleOn}
 use Rattle.cycle.specs.declared.cycling.Cycled.{Cycled}
 use Rattle.cycle.specs.declared.calling.Went.{Went}
 
@@ -50,6 +50,11 @@ callsOn c r clocks inputs activities out =
     cond (eqb (readyCode c r (length out)) 0)
     (singly c r clocks inputs activities out (min (min (length clocks) (length inputs)) (length activities)))
     (noCalls (readyCode c r (length out)) r activities out)
+
+-- and the index, if one is lent (document 02, request ix)
+abbrev pub callsBy : Chart → List ℕ → Run → List ℕ → List ℕ → List ℕ → List ℤ → Calls
+callsBy c index r clocks inputs activities out =
+    cond (eqb (indexedCode c index (length out)) 0) (callsOn c r clocks inputs activities out) (noCalls (indexedCode c index (length out)) r activities out)
 
 -- the same with the run taken apart: the answer, the counters and the timers, the activity words and the outputs
 abbrev pub InParts : Type 0

@@ -13,6 +13,7 @@ use Rattle.chart.specs.Initial.{initialSet}
 use Rattle.chart.specs.declared.chart.Chart.{Chart}
 use Rattle.choice.specs.Choice.{chosenUnder, reasonsOf}
 use Rattle.choice.specs.declared.Choice.{Choice}
+use Rattle.index.specs.Consulting.{indexAfter}
 use Rattle.acting.specs.Acting.{asked, acted}
 use Rattle.acting.specs.declared.Steps.{Steps}
 use Rattle.acting.specs.declared.Acted.{Acted}
@@ -127,6 +128,14 @@ cycled c r clock inputs = goneOn c r clock (countsAt r clock) (timesAt r clock) 
 abbrev pub cycleOf : Chart → Run → ℕ → ℕ → ℕ → Cycled
 cycleOf c r clock inputs lent = cond (eqb (cycleCode c r clock lent) 0) (cycled c r clock inputs) (refused (cycleCode c r clock lent) r)
 
+-- the tests before 12 where an index is lent. Document 02, request (ix): 20, "tested after the chart and before 12"
+abbrev pub indexedCode : Chart → List ℕ → ℕ → ℕ
+indexedCode c index lent = orElse (unless (leb 32 lent) 15) (indexAfter (chartCode c) (c .transitions) (c .sources) index)
+
+-- "A cycle that consults only transitions leaving some active step .. gives the same answer throughout."
+abbrev pub cycleBy : Chart → List ℕ → Run → ℕ → ℕ → ℕ → Cycled
+cycleBy c index r clock inputs lent = cond (eqb (indexedCode c index lent) 0) (cycleOf c r clock inputs lent) (refused (indexedCode c index lent) r)
+
 -- "Lent outputs stay untouched by a refusal; an accepted call writes the first 32 and no others."
 abbrev pub outputsAfter : Chart → Cycled → List ℤ → List ℤ
 outputsAfter c o out =
@@ -138,3 +147,6 @@ answered c out o = (o, outputsAfter c o out)
 
 abbrev pub cycleOn : Chart → Run → ℕ → ℕ → List ℤ → Cycled × List ℤ
 cycleOn c r clock inputs out = answered c out (cycleOf c r clock inputs (length out))
+
+abbrev pub cycleOnBy : Chart → List ℕ → Run → ℕ → ℕ → List ℤ → Cycled × List ℤ
+cycleOnBy c index r clock inputs out = answered c out (cycleBy c index r clock inputs (length out))

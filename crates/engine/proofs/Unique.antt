@@ -4,10 +4,11 @@ use mathlib.Core.Path.{_≡_}
 use lib.IntN.{ℤ}
 use Rattle.sets.proofs.Unique.{one-answer}
 use Rattle.cycle.specs.declared.cycling.Cycled.{Cycled}
+use Rattle.calls.specs.Lent.{Left, left}
 use Rattle.shift.specs.Shifting.{Done}
-use Rattle.engine.specs.Lent.{Left, left, ShiftLeft, shiftLeft}
+use Rattle.engine.specs.Lent.{ShiftLeft, shiftLeft}
 
--- a start, a cycle, and one by the lent run
+-- a start and a cycle
 pub left-unique : (o : Cycled × List ℤ) (r q : Left) → r ≡ left o → q ≡ left o → r ≡ q
 left-unique o r q = one-answer
 

@@ -4,7 +4,7 @@ use mathlib.Core.List.{List}
 use mathlib.Core.Path.{_≡_}
 use lib.IntN.{ℤ}
 use Rattle.sets.proofs.Unique.{one-answer}
-use Rattle.choice.specs.Choice.{chosenUnder, reasonsOf}
+use Rattle.choice.specs.Choice.{chosenUnder, chosenFrom, reasonsOf}
 use Rattle.choice.specs.declared.Choice.{Choice}
 use Rattle.acting.specs.Acting.{asked}
 use Rattle.acting.specs.declared.Asked.{Asked}
@@ -27,6 +27,10 @@ step-time-unique hold e r q = one-answer
 pub choose-unique : (hold edition n : ℕ) (sources targets on off wait counts : List ℕ) (active signals : ℕ) (r q : Choice)
     → r ≡ chosenUnder hold edition n sources targets on off wait counts active signals → q ≡ chosenUnder hold edition n sources targets on off wait counts active signals → r ≡ q
 choose-unique hold edition n sources targets on off wait counts active signals r q = one-answer
+
+pub choose-from-unique : (edition consulted : ℕ) (sources targets on off wait counts : List ℕ) (active signals : ℕ) (r q : Choice)
+    → r ≡ chosenFrom edition consulted sources targets on off wait counts active signals → q ≡ chosenFrom edition consulted sources targets on off wait counts active signals → r ≡ q
+choose-from-unique edition consulted sources targets on off wait counts active signals r q = one-answer
 
 pub steps-of-unique : (active : ℕ) (choice : Choice) (r q : Steps) → r ≡ stepsOf active choice → q ≡ stepsOf active choice → r ≡ q
 steps-of-unique active choice r q = one-answer

@@ -8,6 +8,7 @@ pub mod time;
 
 pub use asking::ask_blocks;
 pub use choosing::choose;
+pub use choosing::choose_from;
 pub use choosing::steps_of;
 pub use explaining::explain;
 pub use explaining::keep_if;

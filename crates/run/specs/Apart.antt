@@ -51,3 +51,10 @@ runOf w counts times = record {
   bad = w .bad;
   hold = w .hold;
 }
+
+-- a run where it lies: its words one by one, its counters and its timers
+abbrev pub Lies : Type 0
+Lies = Words × List ℕ × List ℕ
+
+abbrev pub lying : Run → Lies
+lying r = (wordsOf r, countsOf (r .counters), timesOf (r .timers))

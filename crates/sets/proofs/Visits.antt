@@ -2,17 +2,17 @@
 use mathlib.Core.Path.{_≡_, refl, sym, ap, _∙_}
 use mathlib.Core.Bool.{Bool, true, false, _&&_, not, cond}
 use mathlib.Core.List.{List}
-use Prim.Native.Nat.{ℕ, _+_, _-_, _%_, _^_, _≤_, _<_}
-use native.Mathlib.Nat.{lt-of-lt-of-le, lt-trans, mod-lt, mod-eq-of-lt}
+use Prim.Native.Nat.{ℕ, zero, suc, _+_, _-_, _%_, _^_, _≤_, _<_}
+use native.Mathlib.Nat.{le-antisymm, lt-of-lt-of-le, lt-trans, mod-lt, mod-eq-of-lt}
 use native.Mathlib.Omega.{arith}
 use lib.Dec.{eqb}
 use lib.ListN.{length, getD, set, length-set}
 use lib.Pow.{pow-mono, pow-pos}
 use lib.Seq.{getD-set-same, getD-set-other}
 use borrow.Author.Tests.{eq-eqb, ne-eqb, eqb-true, eqb-false, not-true}
-use Rattle.sets.specs.Loops.{table, summed}
-use Rattle.sets.specs.Sets.{has, first, remove}
-use Rattle.sets.proofs.Loops.{and-true, and-yes, is-table}
+use Rattle.sets.specs.Loops.{table, summed, turns}
+use Rattle.sets.specs.Sets.{has, first, remove, among}
+use Rattle.sets.proofs.Loops.{and-true, and-yes, and-no, turns-start, is-table}
 use Rattle.sets.proofs.Members.{has-zero, has-mod}
 use Rattle.sets.proofs.Counts.{summed-same, summed-less}
 use Rattle.sets.proofs.Least.{first-has, first-least, first-lt, remove-lt, has-remove}
@@ -138,3 +138,69 @@ module _ {f g : ℕ → ℕ} {n s : ℕ} where
 
   pub lessened-end : {rest sum : ℕ} → Lessened f g n s rest sum → rest ≡ 0 → sum ≡ summed g n
   lessened-end {rest} w z = w .sums ∙ summed-same _ g n (λ j l. rw (z, has-zero j))
+
+-- ---- turns in number order, one for each member
+
+-- turns from n on that change nothing
+pub turns-none-from : {A : Type 0} (f : ℕ → A → A) (x : A) (n m : ℕ) → n ≤ m → ((j : ℕ) → n ≤ j → j < m → (y : A) → f j y ≡ y) → turns f x m ≡ turns f x n
+unfolding turns
+turns-none-from f x n zero l h = ap (turns f x) (le-antisymm (omega arith) l)
+turns-none-from f x n (suc m) l h = go (eqb n (suc m)) refl (λ k. turns-none-from f x n m k (λ j a b y. h j a (omega arith) y))
+  where
+    go : (b : Bool) → eqb n (suc m) ≡ b → (n ≤ m → turns f x m ≡ turns f x n) → turns f x (suc m) ≡ turns f x n
+    go true e again = ap (turns f x) (sym (eqb-true n (suc m) e))
+    go false e again = let o = eqb-false n (suc m) e in h m (omega arith) (omega arith) (turns f x m) ∙ again (omega arith)
+
+turns-none : {A : Type 0} (f : ℕ → A → A) (x : A) (n : ℕ) → ((j : ℕ) → j < n → (y : A) → f j y ≡ y) → turns f x n ≡ x
+turns-none f x n h = turns-none-from f x 0 n (omega arith) (λ j a b y. h j b y) ∙ sym (turns-start f x)
+
+pub turns-same : {A : Type 0} (f g : ℕ → A → A) (x : A) (n : ℕ) → ((j : ℕ) → j < n → (y : A) → f j y ≡ g j y) → turns f x n ≡ turns g x n
+unfolding turns
+turns-same f g x zero h = refl
+turns-same f g x (suc n) h = h n (omega arith) (turns f x n) ∙ ap (g n) (turns-same f g x n (λ j l y. h j (omega arith) y))
+
+-- the turns of the members of `rest`, which are still to be made, lead from `now` to the end
+pub record Led {A : Type 0} (f : ℕ → A → A) (s rest : ℕ) (end now : A) : Type 0 where
+  pub visited : Visited (λ j. Unit {0}) 64 s rest
+  pub leads : turns (among rest f) now 64 ≡ end
+
+module _ {A : Type 0} {f : ℕ → A → A} {s : ℕ} {end : A} where
+  pub led-start : {now : A} → s < 2 ^ 64 → turns (among s f) now 64 ≡ end → Led f s s end now
+  led-start l e = record { visited = visited-start (omega arith) l (λ j l n. tt); leads = e }
+
+  pub led-end : {rest : ℕ} {now : A} → Led f s rest end now → rest ≡ 0 → now ≡ end
+  led-end {rest} {now} v z = sym (turns-none (among rest f) now 64 (λ j l y. rw (z, has-zero j))) ∙ v .leads
+
+  module _ {rest k : ℕ} {now : A} (v : Led f s rest end now) (z : rest ≡ 0 → ⊥) (e : k ≡ first rest) where
+    module _ {next : ℕ} {then : A} (g : next ≡ remove rest (first rest)) (h : then ≡ f k now) where
+      within : k < 64
+      within = visit-lt (v .visited) z e
+
+      low : (j : ℕ) → j ≤ k → has next j ≡ false
+      low j l = members (v .visited) z e g j (omega (arith, within)) ∙ go (eqb j k) refl
+        where
+          go : (b : Bool) → eqb j k ≡ b → (has rest j && not b) ≡ false
+          go true q = and-no (has rest j)
+          go false q = let n = eqb-false j k q in rw (visit-least (v .visited) z e j (omega arith))
+
+      here : turns (among rest f) now (suc k) ≡ turns (among next f) then (suc k)
+      unfolding turns
+      here =
+          ap (among rest f k) (turns-none (among rest f) now k (λ j l y. rw (visit-least (v .visited) z e j l)))
+          ∙ rw (visit-rest (v .visited) z e) (sym h)
+          ∙ sym (turns-none (among next f) then (suc k) (λ j l y. rw (low j (omega arith))))
+
+      from : (m : ℕ) → k < m → m ≤ 64 → turns (among rest f) now m ≡ turns (among next f) then m
+      unfolding turns
+      from zero l n = absurd (omega arith)
+      from (suc m) l n = go (eqb m k) refl (from m)
+        where
+          go : (b : Bool) → eqb m k ≡ b → (k < m → m ≤ 64 → turns (among rest f) now m ≡ turns (among next f) then m) → turns (among rest f) now (suc m) ≡ turns (among next f) then (suc m)
+          go true q again = rw (eqb-true m k q) here
+          go false q again =
+              let other = eqb-false m k q in
+              ap (among rest f m) (again (omega arith) (omega arith))
+              ∙ ap (λ (b : Bool). cond b (f m (turns (among next f) then m)) (turns (among next f) then m)) (and-yes (has rest m) ∙ sym (members (v .visited) z e g m (omega arith) ∙ rw q refl))
+
+      pub led-turn : Led f s next end then
+      led-turn = record { visited = visited-turn (v .visited) z e g (λ j n u. tt) tt; leads = sym (from 64 within (omega arith)) ∙ v .leads }

@@ -64,3 +64,7 @@ first s = firstOf (λ k. has s k) 64
 -- s without k
 abbrev pub remove : ℕ → ℕ → ℕ
 remove s k = collect (λ j. has s j && not (eqb j k)) 64
+
+-- what a turn f k makes of x if k is in s; otherwise x stays
+abbrev pub among : {A : Type 0} → ℕ → (ℕ → A → A) → ℕ → A → A
+among s f k x = cond (has s k) (f k x) x

@@ -6,7 +6,7 @@ use lib.IntN.{ℤ}
 use Rattle.sets.proofs.Unique.{one-answer}
 use Rattle.chart.specs.declared.chart.Chart.{Chart}
 use Rattle.run.specs.declared.run.Run.{Run}
-use Rattle.shift.specs.Shifting.{Done, listsCode, clocksTaken, shiftOf}
+use Rattle.shift.specs.Shifting.{Done, listsCode, clocksTaken, shiftOf, shiftBy}
 
 pub lists-code-unique : (clocks inputs words r q : ℕ) → r ≡ listsCode clocks inputs words → q ≡ listsCode clocks inputs words → r ≡ q
 lists-code-unique clocks inputs words r q = one-answer
@@ -18,3 +18,7 @@ clocks-taken-unique code clocks r q = one-answer
 pub shift-unique : (c : Chart) (r : Run) (clocks inputs words : List ℕ) (out : List ℤ) (x y : Done)
     → x ≡ shiftOf c r clocks inputs words out → y ≡ shiftOf c r clocks inputs words out → x ≡ y
 shift-unique c r clocks inputs words out x y = one-answer
+
+pub shift-by-unique : (c : Chart) (index : List ℕ) (r : Run) (clocks inputs words : List ℕ) (out : List ℤ) (x y : Done)
+    → x ≡ shiftBy c index r clocks inputs words out → y ≡ shiftBy c index r clocks inputs words out → x ≡ y
+shift-by-unique c index r clocks inputs words out x y = one-answer

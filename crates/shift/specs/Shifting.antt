@@ -13,7 +13,7 @@ use Rattle.sets.specs.Loops.{orElse}
 use Rattle.fields.specs.Fields.{unless}
 use Rattle.chart.specs.declared.chart.Chart.{Chart}
 use Rattle.run.specs.declared.run.Run.{Run}
-use Rattle.cycle.specs.Cycling.{readyCode}
+use Rattle.cycle.specs.Cycling.{readyCode, indexedCode}
 use Rattle.cycle.specs.Calling.{Calls, singly}
 use Rattle.shift.specs.declared.shifting.Shifted.{Shifted}
 
@@ -48,3 +48,8 @@ abbrev pub shiftOf : Chart → Run → List ℕ → List ℕ → List ℕ → Li
 shiftOf c r clocks inputs words out =
     cond (eqb (shiftCode c r (length out) (length clocks) (length inputs) (length words)) 0) (doneOf (singly c r clocks inputs words out (length clocks)))
     (answerOf (shiftCode c r (length out) (length clocks) (length inputs) (length words)) 0 r, words, out)
+
+-- document 02, request (ix): with an index, 20 "after the chart and before 12", and else the same
+abbrev pub shiftBy : Chart → List ℕ → Run → List ℕ → List ℕ → List ℕ → List ℤ → Done
+shiftBy c index r clocks inputs words out =
+    cond (eqb (indexedCode c index (length out)) 0) (shiftOf c r clocks inputs words out) (answerOf (indexedCode c index (length out)) 0 r, words, out)

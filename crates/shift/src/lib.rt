@@ -6,3 +6,4 @@ pub use shifting::Shifted;
 pub use shifting::clocks_taken;
 pub use shifting::lists_code;
 pub use shifting::shift;
+pub use shifting::shift_by;

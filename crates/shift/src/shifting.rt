@@ -1,7 +1,7 @@
 // The cycles of a shift: the run is taken apart once and changed where it lies, and the chart and the run are tested once, before the first.
 ghost use mathlib.Core.Path.{_≡_};
 ghost use Prim.Native.Nat.{_≤_};
-ghost use Rattle.shift.specs.Shifting.{listsCode, clocksTaken, shiftOf};
+ghost use Rattle.shift.specs.Shifting.{listsCode, clocksTaken, shiftOf, shiftBy};
 use crate::codes::UNEVEN_LISTS;
 use chart::Chart;
 use run::Run;
@@ -27,15 +27,17 @@ pub fn clocks_taken(code: u8, clocks: usize) -> usize
     if code == 0 { clocks } else { 0 }
 }
 
-pub fn shift(
+// An empty list is no index.
+fn shift_with(
     chart: Chart,
+    index: &[u64],
     run: Run,
     clocks: &[u32],
     inputs: &[u32],
     activities: &mut [u64],
     outputs: &mut [i32],
 ) -> Shifted
-    ensures { λ r. ⌜ (r, now (activities .exit), now (outputs .exit)) ≡ shiftOf chart run (now (clocks .entry)) (now (inputs .entry)) (now (activities .entry)) (now (outputs .entry)) ⌝ }
+    ensures { λ r. ⌜ (r, now (activities .exit), now (outputs .exit)) ≡ shiftBy chart (now (index .entry)) run (now (clocks .entry)) (now (inputs .entry)) (now (activities .entry)) (now (outputs .entry)) ⌝ }
 {
     let counters = run.counters;
     let timers = run.timers;
@@ -43,7 +45,7 @@ pub fn shift(
     let mut times = run::times_of(timers);
     let uneven = lists_code(clocks.len(), inputs.len(), activities.len());
     let n = clocks_taken(uneven, clocks.len());
-    let o = cycle::cycles_on(
+    let o = stepping::cycles_on(
         chart.steps,
         chart.actions,
         chart.transitions,
@@ -65,6 +67,7 @@ pub fn shift(
         &chart.signal,
         &chart.expected,
         chart.edition,
+        index,
         run::words_of(run),
         &mut counts,
         &mut times,
@@ -79,4 +82,33 @@ pub fn shift(
         accepted: o.accepted,
         run: run::run_of(after, counts, times),
     }
+}
+
+pub fn shift(
+    chart: Chart,
+    run: Run,
+    clocks: &[u32],
+    inputs: &[u32],
+    activities: &mut [u64],
+    outputs: &mut [i32],
+) -> Shifted
+    ensures { λ r. ⌜ (r, now (activities .exit), now (outputs .exit)) ≡ shiftOf chart run (now (clocks .entry)) (now (inputs .entry)) (now (activities .entry)) (now (outputs .entry)) ⌝ }
+{
+    let none = [0u64; 0];
+    shift_with(chart, &none, run, clocks, inputs, activities, outputs)
+}
+
+// With an index (document 02, request ix), which is tested once.
+pub fn shift_by(
+    chart: Chart,
+    index: &[u64; 64],
+    run: Run,
+    clocks: &[u32],
+    inputs: &[u32],
+    activities: &mut [u64],
+    outputs: &mut [i32],
+) -> Shifted
+    ensures { λ r. ⌜ (r, now (activities .exit), now (outputs .exit)) ≡ shiftBy chart (now (index .entry)) run (now (clocks .entry)) (now (inputs .entry)) (now (activities .entry)) (now (outputs .entry)) ⌝ }
+{
+    shift_with(chart, index, run, clocks, inputs, activities, outputs)
 }

@@ -1,16 +1,16 @@
 -- What a chart that passed the test is: what every part above may rely on.
 use Prim.Native.Nat.{ℕ, _≤_, _<_}
 use mathlib.Core.List.{List}
-use mathlib.Core.Bool.{Bool, true, false, _&&_, _||_}
+use mathlib.Core.Bool.{Bool, true, false, _&&_, _||_, not}
 use mathlib.Core.Path.{_≡_, refl}
 use lib.ListN.{getD}
 use lib.Dec.{leb, ltb, eqb}
 use native.Mathlib.Nat.{lt-of-lt-of-le}
 use native.Mathlib.Omega.{arith}
-use borrow.Author.Tests.{leb-true, ltb-true}
-use Rattle.sets.specs.Sets.{Below}
+use borrow.Author.Tests.{leb-true, ltb-true, eqb-false, not-true}
+use Rattle.sets.specs.Sets.{Below, Apart}
 use Rattle.sets.proofs.Loops.{and-true, else-zero, first-zero}
-use Rattle.fields.specs.Fields.{unless, signalExists, signalsExist, transitionFits, transitionCode, blockNames, blockFits, caseFits, actionFits, timed, longest, editionFits}
+use Rattle.fields.specs.Fields.{unless, signalExists, signalsExist, transitionFits, stepsDiffer, transitionCode, blockNames, blockFits, caseFits, actionFits, timed, longest, editionFits}
 use Rattle.chart.specs.Held.{limitsFit, stepsCode, actionsCode, transitionsCode, transitionCodeAt, blocksCode, blockFitsAt, casesCode, caseFitsAt, closingCode, heldCode, chartCode}
 use Rattle.chart.specs.declared.chart.Chart.{Chart}
 use Rattle.chart.proofs.held.Laws.{Limits, limits}
@@ -19,6 +19,7 @@ pub record Sound (c : Chart) : Type 0 where
   pub limits : Limits (c .steps) (c .actions) (c .transitions) (c .blocks) (c .cases)
   pub output : (a : ℕ) → a < c .actions → getD (c .output) a 0 < 32
   pub sources : (t : ℕ) → t < c .transitions → Below (getD (c .sources) t 0) (c .steps) ≡ true
+  pub some-source : (t : ℕ) → t < c .transitions → getD (c .sources) t 0 ≡ 0 → ⊥
   pub targets : (t : ℕ) → t < c .transitions → Below (getD (c .targets) t 0) (c .steps) ≡ true
   pub blockstep : (b : ℕ) → b < c .blocks → getD (c .blockstep) b 0 < c .steps
   pub blockaction : (b : ℕ) → b < c .blocks → getD (c .blockaction) b 0 < c .actions
@@ -59,6 +60,13 @@ unfolding transitionCode
 transition-zero s a f g on off w e =
     transition-fits s a f g on off w
     (fits (transitionFits s a f g on off w) 5 (λ z. omega arith) (else-zero (unless (transitionFits s a f g on off w) 5) _ e .0))
+
+transition-source : (s a f g on off w : ℕ) → transitionCode s a f g on off w ≡ 0 → f ≡ 0 → ⊥
+unfolding transitionCode
+transition-source s a f g on off w e =
+    let x = else-zero (unless (stepsDiffer f g) 6) _ (else-zero (unless (transitionFits s a f g on off w) 5) _ e .1) in
+    let y = and-true (not (eqb f 0) && not (eqb g 0)) (Apart f g) (fits (stepsDiffer f g) 6 (λ z. omega arith) (x .0)) in
+    eqb-false f 0 (not-true (eqb f 0) (and-true (not (eqb f 0)) (not (eqb g 0)) (y .0) .0))
 
 -- the tables' numbers are all 0, and the closing one
 pub record Zero (c : Chart) : Type 0 where
@@ -101,6 +109,10 @@ transitions-zero : (n s a : ℕ) (f g on off w : List ℕ) → transitionsCode n
 unfolding transitionsCode
 transitions-zero n s a f g on off w e t h = transition-zero s a _ _ _ _ _ (first-zero (transitionCodeAt s a f g on off w) n e t h)
 
+sources-zero : (n s a : ℕ) (f g on off w : List ℕ) → transitionsCode n s a f g on off w ≡ 0 → (t : ℕ) → t < n → getD f t 0 ≡ 0 → ⊥
+unfolding transitionsCode
+sources-zero n s a f g on off w e t h = transition-source s a (getD f t 0) (getD g t 0) (getD on t 0) (getD off t 0) (getD w t 0) (first-zero (transitionCodeAt s a f g on off w) n e t h)
+
 blocks-zero : (n s a : ℕ) (bs ba q d : List ℕ) → blocksCode n s a bs ba q d ≡ 0 → (b : ℕ) → b < n → (getD bs b 0 < s) × (getD ba b 0 < a) × (getD q b 0 ≤ 10) × (getD d b 0 ≤ longest)
 unfolding blocksCode
 blocks-zero n s a bs ba q d e b h =
@@ -119,6 +131,7 @@ sound c e =
       limits = l;
       output = outputs-zero _ _ (z .actions);
       sources = λ t h. transitions-zero _ _ _ _ _ _ _ _ (z .transitions) t h .0;
+      some-source = λ t h. sources-zero _ _ _ _ _ _ _ _ (z .transitions) t h;
       targets = λ t h. transitions-zero _ _ _ _ _ _ _ _ (z .transitions) t h .1;
       blockstep = λ b h. blocks-zero _ _ _ _ _ _ _ (z .blocks) b h .0;
       blockaction = λ b h. blocks-zero _ _ _ _ _ _ _ (z .blocks) b h .1;

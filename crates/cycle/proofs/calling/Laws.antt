@@ -1,27 +1,32 @@
 -- One call more, and what is there once one was refused.
 use Prim.Native.Nat.{ℕ, zero, suc, _+_, _≤_, _<_, min}
 use mathlib.Core.List.{List, [], _∷_}
-use mathlib.Core.Bool.{Bool, true, false, cond}
+use mathlib.Core.Bool.{Bool, true, false, _||_, cond}
 use mathlib.Core.Path.{_≡_, refl, sym, ap, ap₂, _∙_}
 use native.Mathlib.Omega.{arith}
 use lib.IntN.{ℤ}
 use lib.ListN.{length, getD, set, getD-replicate}
-use lib.Dec.{eqb}
+use lib.Dec.{leb, eqb}
 use borrow.Author.Tests.{eq-eqb, ne-eqb, eqb-true, eqb-false}
-use Rattle.sets.specs.Loops.{turns}
-use Rattle.sets.proofs.Loops.{turns-start, turns-more, turns-still, length-table}
+use Rattle.sets.specs.Loops.{orElse, turns}
+use Rattle.sets.proofs.Loops.{else-zero, turns-start, turns-more, turns-still, length-table}
+use Rattle.fields.specs.Fields.{unless}
+use Rattle.chart.specs.Held.{chartCode}
 use Rattle.chart.specs.declared.chart.Chart.{Chart}
+use Rattle.chart.proofs.held.Sound.{fits}
+use Rattle.index.specs.Consulting.{isIndex, indexAfter}
 use Rattle.run.specs.Apart.{runOf}
+use Rattle.run.specs.Belongs.{belongs, ownAfter, ownCode}
 use Rattle.run.specs.declared.apart.Words.{Words}
 use Rattle.run.specs.declared.run.Run.{Run}
 use Rattle.run.proofs.apart.Laws.{same-counts, same-times, put-together}
 use Rattle.choice.proofs.Laws.{reasons-most}
 use Rattle.passes.specs.Moving.{signalsOf}
-use Rattle.cycle.specs.Cycling.{refused, countsAt, readyCode, cycleCode, cycled, cycleOf, outputsAfter, cycleOn, whyIn}
+use Rattle.cycle.specs.Cycling.{refused, countsAt, readyAfter, readyCode, indexedCode, cycleCode, cycled, cycleOf, cycleBy, outputsAfter, cycleOn, cycleOnBy, whyIn}
 use Rattle.passes.specs.Explaining.{keptIf, noReasons}
-use Rattle.cycle.specs.Calling.{Calls, noCalls, called, onward, singly, callsOn, InParts, inParts}
+use Rattle.cycle.specs.Calling.{Calls, noCalls, called, onward, singly, callsOn, callsBy, InParts, inParts}
 use Rattle.cycle.specs.declared.cycling.Cycled.{Cycled}
-use Rattle.cycle.proofs.cycling.Laws.{stops, turned-away, passed}
+use Rattle.cycle.proofs.cycling.Laws.{stops, goes-on, refused-by, turned-away, passed}
 use Rattle.cycle.proofs.cycling.Tested.{ready-kept, outputs-long}
 
 -- calls with this number, so many accepted
@@ -68,6 +73,73 @@ module _ (c : Chart) (first : Run) (clocks inputs words : List ℕ) (out : List 
 
   pub all-made : (d : Calls) (n : ℕ) → readyCode c first (length out) ≡ 0 → n ≡ min (min (length clocks) (length inputs)) (length words) → d ≡ after n → d ≡ callsOn c first clocks inputs words out
   all-made d n e h q = q ∙ rw (e, h)
+
+-- ---- with an index, or without (document 02, request ix)
+
+pub else-none : (a : ℕ) → orElse a 0 ≡ a
+else-none a = go (eqb a 0) refl
+  where
+    go : (b : Bool) → eqb a 0 ≡ b → cond b 0 a ≡ a
+    go true e = sym (eqb-true a 0 e)
+    go false e = refl
+
+-- four numbers in their order, by the first three
+by-three : (a h x o : ℕ) → orElse a (orElse (orElse h x) o) ≡ cond (eqb (orElse a (orElse h x)) 0) (orElse a (orElse h o)) (orElse a (orElse h x))
+by-three a h x o = go (eqb a 0) refl (eqb h 0) refl
+  where
+    go : (p : Bool) → eqb a 0 ≡ p → (q : Bool) → eqb h 0 ≡ q → orElse a (orElse (orElse h x) o) ≡ cond (eqb (orElse a (orElse h x)) 0) (orElse a (orElse h o)) (orElse a (orElse h x))
+    go false e q f = rw (e, e)
+    go true e true f = rw (e, f)
+    go true e false f = rw (e, f, f)
+
+-- the number of the tests before any call, the index's among them
+abbrev pub readyBy : Chart → List ℕ → Run → ℕ → ℕ
+readyBy c index r lent = readyAfter (indexAfter (chartCode c) (c .transitions) (c .sources) index) (c .steps) (c .actions) (c .cases) r lent
+
+module _ (c : Chart) (index : List ℕ) (r : Run) (lent : ℕ) where
+  -- what they tell: what the tests without an index tell, and of the index
+  pub record ReadyBy : Type 0 where
+    pub indexed : indexedCode c index lent ≡ 0
+    pub ready : readyCode c r lent ≡ 0
+    pub chart : chartCode c ≡ 0
+    pub tested : indexAfter (chartCode c) (c .transitions) (c .sources) index ≡ 0
+    pub fitting : (eqb (length index) 0 || isIndex (c .transitions) (c .sources) index) ≡ true
+
+  pub ready-by : readyBy c index r lent ≡ 0 → ReadyBy
+  ready-by e =
+      let few = unless (leb 32 lent) 15 in
+      let other = unless (eqb (length index) 0 || isIndex (c .transitions) (c .sources) index) 20 in
+      let x = else-zero few (ownAfter (orElse (chartCode c) other) (c .steps) (c .actions) (c .cases) r) e in
+      let y = else-zero (orElse (chartCode c) other) (unless (belongs c r) 12) (x .1) in
+      let z = else-zero (chartCode c) other (y .0) in
+      record {
+        indexed = sym (goes-on few (orElse (chartCode c) other) (x .0)) ∙ y .0;
+        ready = sym (goes-on few (ownCode c r) (x .0)) ∙ sym (goes-on (chartCode c) (unless (belongs c r) 12) (z .0)) ∙ y .1;
+        chart = z .0;
+        tested = y .0;
+        fitting = fits _ 20 (λ n. omega arith) (z .1);
+      }
+
+  -- the first that fails: one of those before 12, or 12
+  ready-by-first : readyBy c index r lent ≡ cond (eqb (indexedCode c index lent) 0) (readyCode c r lent) (indexedCode c index lent)
+  ready-by-first = by-three (unless (leb 32 lent) 15) (chartCode c) (unless (eqb (length index) 0 || isIndex (c .transitions) (c .sources) index) 20) (unless (belongs c r) 12)
+
+module _ (c : Chart) (index : List ℕ) (first : Run) (clocks inputs words : List ℕ) (out : List ℤ) where
+  pub not-ready-by : (n : ℕ) → n ≡ readyBy c index first (length out) → (n ≡ 0 → ⊥) → madeOf n 0 0 first words out ≡ callsBy c index first clocks inputs words out
+  not-ready-by n e z = go (eqb (indexedCode c index (length out)) 0) refl
+    where
+      code : ℕ
+      code = indexedCode c index (length out)
+
+      number : n ≡ cond (eqb code 0) (readyCode c first (length out)) code
+      number = e ∙ ready-by-first c index first (length out)
+
+      go : (b : Bool) → eqb code 0 ≡ b → madeOf n 0 0 first words out ≡ cond b (callsOn c first clocks inputs words out) (noCalls code first words out)
+      go true q = not-ready c first clocks inputs words out n (rw q at number) z
+      go false q = ap (λ (m : ℕ). madeOf m 0 0 first words out) (rw q at number)
+
+  pub made-by : (d : Calls) → indexedCode c index (length out) ≡ 0 → d ≡ callsOn c first clocks inputs words out → d ≡ callsBy c index first clocks inputs words out
+  made-by d e h = h ∙ rw e
 
 -- taken apart
 pub in-parts : (code k taken : ℕ) (w : Words) (counts times acts : List ℕ) (out : List ℤ) (d : Calls) → length counts ≡ 64 → length times ≡ 32 → madeOf code k taken (runOf w counts times) acts out ≡ d
@@ -120,11 +192,19 @@ module _ (c : Chart) (r : Run) (clocks inputs acts : List ℕ) (out : List ℤ) 
       go true = calls-long n
       go false = h
 
+  by-long : (index : List ℕ) → Long (callsBy c index r clocks inputs acts out .run)
+  by-long index = go (eqb (indexedCode c index (length out)) 0)
+    where
+      go : (b : Bool) → Long (cond b (callsOn c r clocks inputs acts out) (noCalls (indexedCode c index (length out)) r acts out) .run)
+      go true = on-long
+      go false = h
+
   -- the run that the parts make
-  pub put-back : (g : InParts) (next : Run) → g ≡ inParts (callsOn c r clocks inputs acts out) → next ≡ runOf (g .0 .words) (g .1) (g .2) → next ≡ callsOn c r clocks inputs acts out .run
-  put-back g next e f =
-      let d = callsOn c r clocks inputs acts out in
-      f ∙ ap (λ (p : InParts). runOf (p .0 .words) (p .1) (p .2)) e ∙ sym (put-together (d .run) _ _ _ refl (refl, on-long .0) (refl, on-long .1))
+  pub put-back : (index : List ℕ) (g : InParts) (next : Run) → g ≡ inParts (callsBy c index r clocks inputs acts out) → next ≡ runOf (g .0 .words) (g .1) (g .2)
+      → next ≡ callsBy c index r clocks inputs acts out .run
+  put-back index g next e f =
+      let d = callsBy c index r clocks inputs acts out in
+      f ∙ ap (λ (p : InParts). runOf (p .0 .words) (p .1) (p .2)) e ∙ sym (put-together (d .run) _ _ _ refl (refl, by-long index .0) (refl, by-long index .1))
 
 -- ---- one call is a cycle
 
@@ -150,7 +230,7 @@ why-most c r clock inputs lent k l = rw (why-kept c r clock inputs lent) (go (eq
 abbrev answerIn : List ℕ → Calls → Cycled × List ℤ
 answerIn why d = (record { code = d .code; taken = d .taken; reasons = keptIf (d .code) why; run = d .run }, d .outputs)
 
-pub once : (c : Chart) (r : Run) (clock inputs : ℕ) (acts : List ℕ) (out : List ℤ) → length acts ≡ 1
+once : (c : Chart) (r : Run) (clock inputs : ℕ) (acts : List ℕ) (out : List ℤ) → length acts ≡ 1
     → answerIn (whyIn c r clock inputs) (callsOn c r (clock ∷ []) (inputs ∷ []) acts out) ≡ cycleOn c r clock inputs out
 unfolding singly turns
 once c r clock inputs acts out h = go (eqb (readyCode c r (length out)) 0) refl
@@ -176,14 +256,47 @@ once c r clock inputs acts out h = go (eqb (readyCode c r (length out)) 0) refl
         let z = eqb-false _ 0 q in
         turned-away c (cycleCode c r clock (length out)) (readyCode c r (length out)) (cycled c r clock inputs) _ r out (stops _ _ z) z (rw q)
 
-pub one-cycle : (c : Chart) (r : Run) (clock inputs : ℕ) (out : List ℤ) (w : Words) (counts times acts reasons : List ℕ) (g : InParts) (next : Run)
+pub once-by : (c : Chart) (index : List ℕ) (r : Run) (clock inputs : ℕ) (acts : List ℕ) (out : List ℤ) → length acts ≡ 1
+    → answerIn (whyIn c r clock inputs) (callsBy c index r (clock ∷ []) (inputs ∷ []) acts out) ≡ cycleOnBy c index r clock inputs out
+once-by c index r clock inputs acts out h = go (eqb code 0) refl
+  where
+    code : ℕ
+    code = indexedCode c index (length out)
+
+    go : (b : Bool) → eqb code 0 ≡ b → answerIn (whyIn c r clock inputs) (cond b (callsOn c r (clock ∷ []) (inputs ∷ []) acts out) (noCalls code r acts out)) ≡ cycleOnBy c index r clock inputs out
+    go true q = once c r clock inputs acts out h ∙ rw q
+    go false q = turned-away c code code (cycleOf c r clock inputs (length out)) _ r out refl (eqb-false code 0 q) (rw q)
+
+pub one-cycle : (c : Chart) (index : List ℕ) (r : Run) (clock inputs : ℕ) (out : List ℤ) (w : Words) (counts times acts reasons : List ℕ) (g : InParts) (next : Run)
     → r ≡ runOf w counts times → length acts ≡ 1 → reasons ≡ keptIf (g .0 .code) (whyIn c (runOf w counts times) clock inputs)
-    → g ≡ inParts (callsOn c (runOf w counts times) (clock ∷ []) (inputs ∷ []) acts out) → next ≡ runOf (g .0 .words) (g .1) (g .2)
-    → _≡_ {A = Cycled × List ℤ} (record { code = g .0 .code; taken = g .0 .taken; reasons = reasons; run = next }, g .4) (cycleOn c r clock inputs out)
-one-cycle c r clock inputs out w counts times acts reasons g next e h k f n =
+    → g ≡ inParts (callsBy c index (runOf w counts times) (clock ∷ []) (inputs ∷ []) acts out) → next ≡ runOf (g .0 .words) (g .1) (g .2)
+    → _≡_ {A = Cycled × List ℤ} (record { code = g .0 .code; taken = g .0 .taken; reasons = reasons; run = next }, g .4) (cycleOnBy c index r clock inputs out)
+one-cycle c index r clock inputs out w counts times acts reasons g next e h k f n =
     let run = runOf w counts times in
     let why = whyIn c run clock inputs in
     ap {B = Cycled × List ℤ} (λ (l : List ℕ). (record { code = g .0 .code; taken = g .0 .taken; reasons = l; run = next }, g .4)) k
-    ∙ ap₂ {C = Cycled × List ℤ} (λ (p : InParts) (x : Run). (record { code = p .0 .code; taken = p .0 .taken; reasons = keptIf (p .0 .code) why; run = x }, p .4)) f (put-back c run (clock ∷ []) (inputs ∷ []) acts out (parts-long w counts times) g next f n)
-    ∙ once c run clock inputs acts out h
-    ∙ ap (λ (x : Run). cycleOn c x clock inputs out) (sym e)
+    ∙ ap₂ {C = Cycled × List ℤ} (λ (p : InParts) (x : Run). (record { code = p .0 .code; taken = p .0 .taken; reasons = keptIf (p .0 .code) why; run = x }, p .4)) f (put-back c run (clock ∷ []) (inputs ∷ []) acts out (parts-long w counts times) index g next f n)
+    ∙ once-by c index run clock inputs acts out h
+    ∙ ap (λ (x : Run). cycleOnBy c index x clock inputs out) (sym e)
+
+-- ---- without an index
+
+-- the tests before 12 are then tests before 12 of the cycle
+pub none-indexed : (c : Chart) (r : Run) (lent : ℕ) → (indexedCode c [] lent ≡ 0 → ⊥) → indexedCode c [] lent ≡ readyCode c r lent
+none-indexed c r lent z =
+    let few = unless (leb 32 lent) 15 in
+    let own = unless (belongs c r) 12 in
+    sym (by-three few (chartCode c) 0 own ∙ rw (ne-eqb (indexedCode c [] lent) 0 z)) ∙ ap (λ (n : ℕ). orElse few (orElse n own)) (else-none (chartCode c))
+
+pub cycle-by-none : (c : Chart) (r : Run) (clock inputs lent : ℕ) → cycleBy c [] r clock inputs lent ≡ cycleOf c r clock inputs lent
+cycle-by-none c r clock inputs lent = go (eqb (indexedCode c [] lent) 0) refl
+  where
+    code : ℕ
+    code = indexedCode c [] lent
+
+    go : (b : Bool) → eqb code 0 ≡ b → cond b (cycleOf c r clock inputs lent) (refused code r) ≡ cycleOf c r clock inputs lent
+    go true q = refl
+    go false q =
+        let z = eqb-false code 0 q in
+        let same = none-indexed c r lent z in
+        refused-by (cycleCode c r clock lent) code (cycled c r clock inputs) (refused code r) r r (same ∙ stops (readyCode c r lent) _ (λ n. z (same ∙ n))) z refl refl

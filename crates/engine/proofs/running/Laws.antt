@@ -6,21 +6,20 @@ use lib.IntN.{ℤ}
 use lib.ListN.{length, replicate}
 use Rattle.sets.specs.Loops.{orElse}
 use Rattle.chart.specs.declared.chart.Chart.{Chart}
-use Rattle.run.specs.Apart.{wordsOf, countsOf, timesOf}
 use Rattle.run.specs.declared.apart.Words.{Words}
 use Rattle.run.specs.declared.run.Run.{Run}
 use Rattle.run.proofs.apart.Laws.{same-counts, same-times}
-use Rattle.cycle.specs.Cycling.{cycleOf, cycleOn, outputsAfter, whyIn}
+use Rattle.cycle.specs.Cycling.{cycleOnBy, whyIn}
 use Rattle.passes.specs.Explaining.{keptIf, noReasons}
+use Rattle.calls.specs.Lent.{Left, left}
 use Rattle.calls.specs.Starting.{begun, startOn}
-use Rattle.cycle.specs.Calling.{callsOn, InParts, inParts}
+use Rattle.cycle.specs.Calling.{callsBy, InParts, inParts}
 use Rattle.cycle.specs.declared.cycling.Cycled.{Cycled}
 use Rattle.calls.specs.declared.starting.Started.{Started}
-use Rattle.cycle.proofs.cycling.Laws.{together}
-use Rattle.cycle.proofs.calling.Laws.{once}
-use Rattle.shift.specs.Shifting.{shiftOf}
-use Rattle.shift.proofs.shifting.Laws.{uneven, some, all-told}
-use Rattle.engine.specs.Lent.{Left, left, ShiftLeft, shiftLeft}
+use Rattle.cycle.proofs.calling.Laws.{once-by}
+use Rattle.shift.specs.Shifting.{shiftBy}
+use Rattle.shift.proofs.shifting.Laws.{some, lists, made, all-told-by}
+use Rattle.engine.specs.Lent.{ShiftLeft, shiftLeft}
 
 -- a start's counters and timers are 0
 pub start-left : (c : Chart) (clock : ℕ) (out after : List ℤ) (s : Started) (w : Words) → _≡_ {A = Cycled × List ℤ} (begun s, after) (startOn c clock out) → w ≡ s .words
@@ -31,26 +30,19 @@ start-left c clock out after s w e f =
     ∙ ap left e
 
 -- a cycle is a list of one, with the reasons beside it
-pub cycle-left : (c : Chart) (r : Run) (clock inputs : ℕ) (acts reasons : List ℕ) (out : List ℤ) (g : InParts) (w : Words) → length acts ≡ 1 → reasons ≡ keptIf (g .0 .code) (whyIn c r clock inputs)
-    → g ≡ inParts (callsOn c r (clock ∷ []) (inputs ∷ []) acts out) → w ≡ g .0 .words
-    → _≡_ {A = Left} (g .0 .code, g .0 .taken, reasons, (w, g .1, g .2), g .4) (left (cycleOn c r clock inputs out))
-cycle-left c r clock inputs acts reasons out g w l h e f =
+pub cycle-left : (c : Chart) (index : List ℕ) (r : Run) (clock inputs : ℕ) (acts reasons : List ℕ) (out : List ℤ) (g : InParts) (w : Words) → length acts ≡ 1 → reasons ≡ keptIf (g .0 .code) (whyIn c r clock inputs)
+    → g ≡ inParts (callsBy c index r (clock ∷ []) (inputs ∷ []) acts out) → w ≡ g .0 .words
+    → _≡_ {A = Left} (g .0 .code, g .0 .taken, reasons, (w, g .1, g .2), g .4) (left (cycleOnBy c index r clock inputs out))
+cycle-left c index r clock inputs acts reasons out g w l h e f =
     ap₂ {C = Left} (λ (y : List ℕ) (x : Words). (g .0 .code, g .0 .taken, y, (x, g .1, g .2), g .4)) h f
     ∙ ap {B = Left} (λ (p : InParts). (p .0 .code, p .0 .taken, keptIf (p .0 .code) (whyIn c r clock inputs), (p .0 .words, p .1, p .2), p .4)) e
-    ∙ ap left (once c r clock inputs acts out l)
+    ∙ ap left (once-by c index r clock inputs acts out l)
 
 -- a shift is the calls that are made, and then 18
-pub shift-left : (c : Chart) (r : Run) (clocks inputs acts : List ℕ) (out : List ℤ) (g : InParts) (w : Words) (code : ℕ)
-    → g ≡ inParts (callsOn c r (some c r clocks inputs acts out (uneven c r clocks inputs acts out)) inputs acts out) → w ≡ g .0 .words → code ≡ orElse (g .0 .code) (uneven c r clocks inputs acts out)
-    → _≡_ {A = ShiftLeft} (code, g .0 .accepted, (w, g .1, g .2), g .3, g .4) (shiftLeft (shiftOf c r clocks inputs acts out))
-shift-left c r clocks inputs acts out g w code e f h =
+pub shift-left : (c : Chart) (index : List ℕ) (r : Run) (clocks inputs acts : List ℕ) (out : List ℤ) (g : InParts) (w : Words) (code : ℕ)
+    → g ≡ inParts (made c index r clocks inputs acts out r (some c r clocks inputs acts out (lists c index r clocks inputs acts out))) → w ≡ g .0 .words → code ≡ orElse (g .0 .code) (lists c index r clocks inputs acts out)
+    → _≡_ {A = ShiftLeft} (code, g .0 .accepted, (w, g .1, g .2), g .3, g .4) (shiftLeft (shiftBy c index r clocks inputs acts out))
+shift-left c index r clocks inputs acts out g w code e f h =
     ap₂ {C = ShiftLeft} (λ (n : ℕ) (x : Words). (n, g .0 .accepted, (x, g .1, g .2), g .3, g .4)) h f
-    ∙ ap {B = ShiftLeft} (λ (p : InParts). (orElse (p .0 .code) (uneven c r clocks inputs acts out), p .0 .accepted, (p .0 .words, p .1, p .2), p .3, p .4)) e
-    ∙ ap shiftLeft (all-told c r clocks inputs acts out)
-
--- the cycle by value, taken apart
-pub value-left : (c : Chart) (r given : Run) (clock inputs : ℕ) (out after : List ℤ) (o : Cycled) (w : Words) (counts times : List ℕ) → given ≡ r
-    → (o ≡ cycleOf c given clock inputs (length out)) × (after ≡ outputsAfter c o out) → w ≡ wordsOf (o .run) → counts ≡ countsOf (o .run .counters) → times ≡ timesOf (o .run .timers)
-    → _≡_ {A = Left} (o .code, o .taken, o .reasons, (w, counts, times), after) (left (cycleOn c r clock inputs out))
-value-left c r given clock inputs out after o w counts times q e f g h =
-    rw (f, g, h) (ap left (together c (cycleOf c given clock inputs (length out)) o out after (e .0) (e .1)) ∙ ap (λ (x : Run). left (cycleOn c x clock inputs out)) q)
+    ∙ ap {B = ShiftLeft} (λ (p : InParts). (orElse (p .0 .code) (lists c index r clocks inputs acts out), p .0 .accepted, (p .0 .words, p .1, p .2), p .3, p .4)) e
+    ∙ ap shiftLeft (all-told-by c index r clocks inputs acts out)

@@ -1,6 +1,6 @@
 -- The tests before any cycle, and the calls after them.
 use Prim.Native.Nat.{ℕ, _≤_, min}
-use mathlib.Core.List.{List}
+use mathlib.Core.List.{List, []}
 use mathlib.Core.Bool.{Bool, true, false, cond}
 use mathlib.Core.Path.{_≡_, refl, sym, ap, ap₂, _∙_}
 use native.Mathlib.Omega.{arith}
@@ -16,11 +16,11 @@ use Rattle.chart.specs.declared.chart.Chart.{Chart}
 use Rattle.run.specs.Apart.{runOf}
 use Rattle.run.specs.declared.apart.Words.{Words}
 use Rattle.run.specs.declared.run.Run.{Run}
-use Rattle.cycle.specs.Cycling.{readyCode}
-use Rattle.cycle.specs.Calling.{Calls, noCalls, singly, callsOn, InParts, inParts}
+use Rattle.cycle.specs.Cycling.{readyCode, indexedCode}
+use Rattle.cycle.specs.Calling.{Calls, noCalls, singly, callsOn, callsBy, InParts, inParts}
 use Rattle.cycle.proofs.cycling.Laws.{stops}
-use Rattle.cycle.proofs.calling.Laws.{none-called, parts-long, put-back}
-use Rattle.shift.specs.Shifting.{Done, answerOf, doneOf, listsFit, listsCode, clocksTaken, shiftCode, shiftOf}
+use Rattle.cycle.proofs.calling.Laws.{else-none, none-called, parts-long, put-back, none-indexed}
+use Rattle.shift.specs.Shifting.{Done, answerOf, doneOf, listsFit, listsCode, clocksTaken, shiftCode, shiftOf, shiftBy}
 
 -- lists that fit
 pub fit : (clocks inputs words : ℕ) → listsFit clocks inputs words ≡ true → (inputs ≡ clocks) × (words ≡ clocks) × (clocks ≤ 4096)
@@ -28,13 +28,6 @@ fit clocks inputs words e =
     let x = and-true _ (leb clocks 4096) e in
     let y = and-true (eqb clocks inputs) (eqb clocks words) (x .0) in
     (sym (eqb-true clocks inputs (y .0)), sym (eqb-true clocks words (y .1)), leb-true clocks 4096 (x .1))
-
-else-none : (a : ℕ) → orElse a 0 ≡ a
-else-none a = go (eqb a 0) refl
-  where
-    go : (b : Bool) → eqb a 0 ≡ b → cond b 0 a ≡ a
-    go true e = sym (eqb-true a 0 e)
-    go false e = refl
 
 -- ---- the tests before any cycle
 
@@ -102,21 +95,55 @@ module _ (c : Chart) (r : Run) (clocks inputs words : List ℕ) (out : List ℤ)
           ∙ ap (told 18) none-made
           ∙ before-any (orElse n 18) (ap (orElse n) (sym u)) (λ z. let last = else-zero n 18 z .1 in omega arith)
 
-  -- the same of the numbers that the two tests gave
-  module _ (run : Run) (u n : ℕ) (g : InParts) (e : u ≡ uneven) (f : n ≡ clocksTaken u (length clocks)) (h : g ≡ inParts (callsOn c run (take n clocks) inputs words out)) where
-    pub all-taken : g ≡ inParts (callsOn c run (some uneven) inputs words out)
-    all-taken = h ∙ ap (λ (m : ℕ). inParts (callsOn c run (take m clocks) inputs words out)) (f ∙ ap (λ (m : ℕ). clocksTaken m (length clocks)) e)
+-- ---- with an index, or without (document 02, request ix)
 
-    pub code-told : (code : ℕ) → code ≡ orElse (g .0 .code) u → code ≡ orElse (g .0 .code) uneven
+module _ (c : Chart) (index : List ℕ) (r : Run) (clocks inputs words : List ℕ) (out : List ℤ) where
+  abbrev pub lists : ℕ
+  lists = uneven c r clocks inputs words out
+
+  abbrev pub made : Run → List ℕ → Calls
+  made run taken = callsBy c index run taken inputs words out
+
+  pub all-told-by : told c r clocks inputs words out lists (made r (some c r clocks inputs words out lists)) ≡ shiftBy c index r clocks inputs words out
+  all-told-by = go (eqb (indexedCode c index (length out)) 0) refl
+    where
+      n : ℕ
+      n = indexedCode c index (length out)
+
+      go : (b : Bool) → eqb n 0 ≡ b
+          → told c r clocks inputs words out lists (cond b (callsOn c r (some c r clocks inputs words out lists) inputs words out) (noCalls n r words out)) ≡ cond b (shiftOf c r clocks inputs words out) (answerOf n 0 r, words, out)
+      go true q = all-told c r clocks inputs words out
+      go false q = ap {B = Done} (λ (m : ℕ). (answerOf m 0 r, words, out)) (sym (stops n lists (eqb-false n 0 q)))
+
+  -- the same of the numbers that the two tests gave
+  module _ (run : Run) (u n : ℕ) (g : InParts) (e : u ≡ lists) (f : n ≡ clocksTaken u (length clocks)) (h : g ≡ inParts (made run (take n clocks))) where
+    pub all-taken : g ≡ inParts (made run (some c r clocks inputs words out lists))
+    all-taken = h ∙ ap (λ (m : ℕ). inParts (made run (take m clocks))) (f ∙ ap (λ (m : ℕ). clocksTaken m (length clocks)) e)
+
+    pub code-told : (code : ℕ) → code ≡ orElse (g .0 .code) u → code ≡ orElse (g .0 .code) lists
     code-told code q = q ∙ ap (orElse (g .0 .code)) e
 
   -- with the run put together
   pub all-called : (w : Words) (counts times : List ℕ) (code : ℕ) (g : InParts) (next : Run) → r ≡ runOf w counts times
-      → g ≡ inParts (callsOn c (runOf w counts times) (some uneven) inputs words out) → code ≡ orElse (g .0 .code) uneven → next ≡ runOf (g .0 .words) (g .1) (g .2)
-      → _≡_ {A = Done} (answerOf code (g .0 .accepted) next, g .3, g .4) (shiftOf c r clocks inputs words out)
+      → g ≡ inParts (made (runOf w counts times) (some c r clocks inputs words out lists)) → code ≡ orElse (g .0 .code) lists → next ≡ runOf (g .0 .words) (g .1) (g .2)
+      → _≡_ {A = Done} (answerOf code (g .0 .accepted) next, g .3, g .4) (shiftBy c index r clocks inputs words out)
   all-called w counts times code g next e h p q =
       let run = runOf w counts times in
       ap {B = Done} (λ (n : ℕ). (answerOf n (g .0 .accepted) next, g .3, g .4)) p
-      ∙ ap₂ {C = Done} (λ (p : InParts) (x : Run). (answerOf (orElse (p .0 .code) uneven) (p .0 .accepted) x, p .3, p .4)) h (put-back c run (some uneven) inputs words out (parts-long w counts times) g next h q)
-      ∙ ap (λ (x : Run). told uneven (callsOn c x (some uneven) inputs words out)) (sym e)
-      ∙ all-told
+      ∙ ap₂ {C = Done} (λ (p : InParts) (x : Run). (answerOf (orElse (p .0 .code) lists) (p .0 .accepted) x, p .3, p .4)) h (put-back c run (some c r clocks inputs words out lists) inputs words out (parts-long w counts times) index g next h q)
+      ∙ ap (λ (x : Run). told c r clocks inputs words out lists (made x (some c r clocks inputs words out lists))) (sym e)
+      ∙ all-told-by
+
+-- without one
+pub shift-by-none : (c : Chart) (r : Run) (clocks inputs words : List ℕ) (out : List ℤ) → shiftBy c [] r clocks inputs words out ≡ shiftOf c r clocks inputs words out
+shift-by-none c r clocks inputs words out = go (eqb code 0) refl
+  where
+    code : ℕ
+    code = indexedCode c [] (length out)
+
+    go : (b : Bool) → eqb code 0 ≡ b → cond b (shiftOf c r clocks inputs words out) (answerOf code 0 r, words, out) ≡ shiftOf c r clocks inputs words out
+    go true q = refl
+    go false q =
+        let z = eqb-false code 0 q in
+        let same = none-indexed c r (length out) z in
+        before-any c r clocks inputs words out code (same ∙ stops (readyCode c r (length out)) _ (λ n. z (same ∙ n))) z

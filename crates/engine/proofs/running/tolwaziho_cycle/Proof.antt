@@ -50,8 +50,8 @@ returns c =
     let keeping = c .before .before .before .before .before .before .before .before .before in
     let calling = keeping .before .before .before .before in
     let explaining = calling .before .before .before .before .before .before .before in
-    let s = explaining .before .before .before .before .before .before .before .before .before .before .before in
-    cycle-left (chart s) (run s) (s .args .new) (s .args .inputs) _ _ (now (s .args .outputs)) _ _ refl
+    let s = explaining .before .before .before .before .before .before .before .before .before .before .before .before in
+    cycle-left (chart s) (now (s .args .index)) (run s) (s .args .new) (s .args .inputs) _ _ (now (s .args .outputs)) _ _ refl
     (keeping .keep-if .ensures ∙ ap (keptIf (calling .cycles-on .result .code)) (explaining .explain .ensures)) (calling .cycles-on .ensures) (c .put-words .ensures)
 
 pub tolwaziho-cycle-spec : {M : Type 1} → statement M

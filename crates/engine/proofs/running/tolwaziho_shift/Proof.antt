@@ -52,12 +52,12 @@ returns c =
     let calling = put .before .before .before .before .before .before .before .before .before .before .before .before in
     let taken = calling .before .before .before .before .before .before in
     let listed = taken .before in
-    let s = listed .before .before .before .before .before .before .before .before .before .before .before .before in
+    let s = listed .before .before .before .before .before .before .before .before .before .before .before .before .before in
     let a = s .args in
-    shift-left (chart s) (run s) (now (a .clocks)) (now (a .inputs)) (now (a .activities)) (now (a .outputs)) _ _ _
-    (all-taken (chart s) (run s) (now (a .clocks)) (now (a .inputs)) (now (a .activities)) (now (a .outputs)) (run s) _ _ _ (listed .lists-code .ensures) (taken .clocks-taken .ensures .0) (calling .cycles-on .ensures))
+    shift-left (chart s) (now (a .index)) (run s) (now (a .clocks)) (now (a .inputs)) (now (a .activities)) (now (a .outputs)) _ _ _
+    (all-taken (chart s) (now (a .index)) (run s) (now (a .clocks)) (now (a .inputs)) (now (a .activities)) (now (a .outputs)) (run s) _ _ _ (listed .lists-code .ensures) (taken .clocks-taken .ensures .0) (calling .cycles-on .ensures))
     (put .put-words .ensures)
-    (code-told (chart s) (run s) (now (a .clocks)) (now (a .inputs)) (now (a .activities)) (now (a .outputs)) (run s) _ _ _ (listed .lists-code .ensures) (taken .clocks-taken .ensures .0) (calling .cycles-on .ensures) _ (c .or-else .ensures))
+    (code-told (chart s) (now (a .index)) (run s) (now (a .clocks)) (now (a .inputs)) (now (a .activities)) (now (a .outputs)) (run s) _ _ _ (listed .lists-code .ensures) (taken .clocks-taken .ensures .0) (calling .cycles-on .ensures) _ (c .or-else .ensures))
 
 pub tolwaziho-shift-spec : {M : Type 1} → statement M
 tolwaziho-shift-spec =
