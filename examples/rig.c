@@ -1,4 +1,4 @@
-/* What a rig computer does with the library: it reads a chart file, starts, makes cycles and a shift, turns the key, and reports.
+/* What a rig computer does with the library: it reads a chart file, builds its index, starts, makes cycles and a shift, turns the key, and reports.
 
      gcc -o rig rig.c $(pkg-config --cflags --libs tolwaziho) && ./rig chart.bin
 
@@ -9,6 +9,7 @@
 
 static uint8_t file[65536];	/* of a longer file, which is no chart anyway, the first bytes decide */
 static struct tw_chart chart;
+static struct tw_index chart_index;
 static struct tw_run run;
 static int32_t outputs[TW_OUTPUTS];
 
@@ -64,6 +65,14 @@ int main(int argc, char **argv)
 	}
 	printf("read: %zu steps, %zu actions, %zu transitions\n", chart.steps, chart.actions, chart.transitions);
 
+	/* once, for all shifts with this chart: each then looks only at transitions that leave an active step */
+	if (accepted("index", tw_index(&chart, &chart_index))) {
+		printf("index: transitions that leave each step:");
+		for (size_t k = 0; k < chart.steps; k++)
+			printf(" 0x%" PRIx64, chart_index.leaving[k]);
+		printf("\n");
+	}
+
 	if (accepted("start", tw_start(&chart, &run, 1000, outputs, TW_OUTPUTS)))
 		print_state();
 	cycle(1010, 1);
@@ -75,7 +84,7 @@ int main(int argc, char **argv)
 	const uint32_t clocks[] = { 1520, 1600, 2020, 2019 }, inputs[] = { 1, 0, 2, 0 };
 	uint64_t activities[4];
 	size_t made;
-	accepted("shift", tw_shift(&chart, &run, clocks, 4, inputs, 4, activities, 4, outputs, TW_OUTPUTS, &made));
+	accepted("shift", tw_shift_by(&chart, &chart_index, &run, clocks, 4, inputs, 4, activities, 4, outputs, TW_OUTPUTS, &made));
 	printf("shift: %zu of 4 cycles made, active actions:", made);
 	for (size_t k = 0; k < made; k++)
 		printf(" 0x%" PRIx64, activities[k]);
@@ -96,7 +105,9 @@ int main(int argc, char **argv)
 	if (accepted("tally", tw_tally(&chart, &run, &tallied)))
 		printf("tally: passed %zu, failed %zu, not run %zu\n", tallied.passed, tallied.failed, tallied.notrun);
 
-	/* a chart that is altered where it is held */
+	/* a chart that is altered where it is held: the index is that of another chart then, and at last it is no chart */
+	chart.transitions = 1;
+	accepted("shift", tw_shift_by(&chart, &chart_index, &run, clocks, 4, inputs, 4, activities, 4, outputs, TW_OUTPUTS, &made));
 	chart.output[0] = TW_OUTPUTS;
 	accepted("test", tw_test(&chart));
 	return 0;

@@ -728,6 +728,94 @@ fn random_weights(rng: &Rng, chart: &Chart) -> Vec<u64> {
 }
 
 // ---------------------------------------------------------------------------------------------
+// Indexes (document 02, request ix)
+// ---------------------------------------------------------------------------------------------
+
+// The words of an index, and in which of the ways it was made, if not from the chart as it is held.
+struct Leaving {
+    words: Vec<u64>,
+    way: Option<usize>,
+}
+
+const WAYS: [&str; 10] = [
+    "a transition left out",
+    "a transition too many",
+    "a transition that there is not",
+    "a step that there is not",
+    "a step and a transition that there are not",
+    "the targets",
+    "zeros",
+    "ones",
+    "another chart",
+    "the chart before it was altered",
+];
+
+// "for every step, the set of transitions that have it as a source", or as a target if that is the field; "0 beyond the last step". A chart with a
+// count above its limit has as many as it can have.
+fn index_of(held: &Held, field: Field) -> Vec<u64> {
+    let (steps, transitions) = (held.count(Steps), held.count(Transitions).min(64));
+    let word = |k: usize| (0..transitions).filter(|t| has(held[field][*t], k as u64)).map(|t| 1 << t).sum();
+    (0..64).map(|k| if k < steps { word(k) } else { 0 }).collect()
+}
+
+// A step and a transition, by whose bit an index is altered in this way, if there are such.
+fn other_bit(rng: &Rng, held: &Held, way: usize) -> Option<(usize, usize)> {
+    let (steps, transitions) = (held.count(Steps).min(64), held.count(Transitions).min(64));
+    let some = |numbers: Range<usize>| numbers.clone().nth(rng.below(numbers.len().max(1)));
+    match way {
+        0 => {
+            let (t, bit) = (some(0..transitions)?, rng.below(64));
+            members(held[Sources][t]).into_iter().cycle().nth(bit).map(|k| (k, t))
+        }
+        1 => some(0..steps).zip(some(0..transitions)),
+        2 => some(0..steps).zip(some(transitions..64)),
+        3 => some(steps..64).zip(some(0..transitions)),
+        4 => some(steps..64).zip(some(transitions..64)),
+        _ => None,
+    }
+}
+
+// The chart altered so that it is still one, and mostly not that of its index: the last transition gone, one more that is like another, or a source
+// more.
+fn alter_sources(rng: &Rng, held: &mut Held) {
+    let (steps, many) = (held.count(Steps), held.count(Transitions));
+    if many == 0 || many > 64 {
+        return;
+    }
+    let t = rng.below(many);
+    match rng.below(3) {
+        0 => held[Transitions][0] -= 1,
+        1 if many < 64 => {
+            [Sources, Targets, On, Off, Wait].iter().for_each(|field| held[*field][many] = held[*field][t]);
+            held[Transitions][0] += 1;
+        }
+        _ => held[Sources][t] |= chosen(rng, numbers(steps) & !held[Targets][t], 1),
+    }
+}
+
+// The chart's own in about half of the cases, or one made in one of the ways, which now and then is the chart's own too; in the last way the chart is
+// altered after it.
+fn some_index(rng: &Rng, held: &mut Held) -> Leaving {
+    let mut words = index_of(held, Sources);
+    if rng.chance(50) {
+        return Leaving { words, way: None };
+    }
+    let way = rng.below(WAYS.len());
+    if let Some((k, t)) = other_bit(rng, held, way) {
+        words[k] = if way == 0 { words[k] & !(1 << t) } else { words[k] | 1 << t };
+    }
+    match way {
+        5 => words = index_of(held, Targets),
+        6 => words.fill(0),
+        7 => words.fill(u64::MAX),
+        8 => words = index_of(&Held::of(&file_of(&random_chart(rng))), Sources),
+        9 => alter_sources(rng, held),
+        _ => {}
+    }
+    Leaving { words, way: Some(way) }
+}
+
+// ---------------------------------------------------------------------------------------------
 // The cases
 // ---------------------------------------------------------------------------------------------
 
@@ -745,8 +833,14 @@ const WRITING: u64 = 4;
 const SHIFT: u64 = 5;
 const HOLD: u64 = 6;
 const RELEASE: u64 = 7;
+const INDEX: u64 = 8;
+const CYCLE_BY: u64 = 9;
+const SHIFT_BY: u64 = 10;
 // each by its name
-const CALLS: [&str; 8] = ["start", "cycle", "tally", "weighing", "writing", "shift", "hold", "release"];
+#[rustfmt::skip]
+const CALLS: [&str; 11] = [
+    "start", "cycle", "tally", "weighing", "writing", "shift", "hold", "release", "building", "cycle by index", "shift by index",
+];
 
 // A call on what is held, without the lists that may follow.
 fn request(held: &Held, kind: u64, clock: u64, inputs: u64, lent: u64, weights: usize) -> Vec<u8> {
@@ -781,13 +875,15 @@ fn back_case(rng: &Rng, _: u64) -> Case {
     Case { request: file, count: Box::new(count) }
 }
 
-// A call on a held chart and run, the field that was put at its limit or above it, whether the run is one of the chart but for its mark, whether the
-// chart is one but for its edition, and the number of a fault that it has beside its edition.
+// A call on a held chart and run, by an index if it has one, the field that was put at its limit or above it, whether the run is one of the chart but
+// for its mark, whether the chart is one but for its edition, and the number of a fault that it has beside its edition.
 struct Call {
     held: Held,
     kind: u64,
     clock: u64,
     inputs: u64,
+    lent: u64,
+    index: Option<Leaving>,
     limit: Option<(Field, bool)>,
     fits: bool,
     by_edition: bool,
@@ -869,6 +965,13 @@ fn put_two_faults(rng: &Rng, held: &mut Held) -> Option<u64> {
     Some(fault)
 }
 
+// One of those other faults by itself.
+fn put_one_fault(rng: &Rng, held: &mut Held) {
+    let edition = held[Edition][0];
+    put_two_faults(rng, held);
+    held[Edition][0] = edition;
+}
+
 fn held_case(rng: &Rng, _: u64) -> Case {
     let mut chart = random_chart(rng);
     let wanted = some_transition(rng, &chart);
@@ -882,18 +985,25 @@ fn held_case(rng: &Rng, _: u64) -> Case {
     let gap = if ripe.is_some() || rng.chance(88) { elapsed } else { refused_gap(rng) };
     let told = ripe.map(|[_, _, on, off, _]| (rng.any() | on) & !off & numbers(32));
     let (clock, inputs) = (reading(held[Clock][0] as i64 + gap), told.unwrap_or_else(|| inputs_for(rng, &chart, wanted)));
-    let any_call = rng.pick(&[START, CYCLE, CYCLE, CYCLE, CYCLE, CYCLE, TALLY, WEIGHING, HOLD, RELEASE]);
+    let any_call = rng.pick(&[START, CYCLE, CYCLE, CYCLE, CYCLE, CYCLE, TALLY, WEIGHING, HOLD, RELEASE, INDEX]);
     let (kind, limit, fault) = match rng.below(20) {
         _ if ripe.is_some() => (CYCLE, None, None),
+        0 if any_call == INDEX => {
+            put_one_fault(rng, &mut held);
+            (INDEX, None, None)
+        }
         0 => (any_call, None, put_two_faults(rng, &mut held)),
         _ => (any_call, alter(rng, &mut held), None),
     };
+    let index = (kind == CYCLE && rng.chance(30)).then(|| some_index(rng, &mut held));
+    let kind = if index.is_some() { CYCLE_BY } else { kind };
     let (fits, by_edition) = (held.equals_but_mark(&made), held.differs_by_edition(&made));
     let lent = if rng.chance(60) { 32 } else { rng.pick(&[0, 31, 33, 64, 255, rng.any() % 256]) };
     let weights = if kind == WEIGHING { random_weights(rng, &chart) } else { Vec::new() };
     let mut bytes = request(&held, kind, clock, inputs, lent, weights.len());
     weights.iter().for_each(|weight| put(&mut bytes, *weight, 2));
-    let call = Call { held, kind, clock, inputs, limit, fits, by_edition, fault };
+    index.iter().flat_map(|index| &index.words).for_each(|word| put(&mut bytes, *word, 8));
+    let call = Call { held, kind, clock, inputs, lent, index, limit, fits, by_edition, fault };
     Case { request: bytes, count: Box::new(move |reached, line| count_held(reached, &call, line)) }
 }
 
@@ -936,19 +1046,23 @@ fn shift_clocks(rng: &Rng, first: u64, many: usize, due: &[u64]) -> Vec<u64> {
     clocks
 }
 
-// Three in 2,000 shifts are as long as may be, or by one longer, and all else is right: each costs as much as a hundred others.
-fn shift_case(rng: &Rng, number: u64) -> Case {
-    let chart = random_chart(rng);
-    let mut held = Held::of(&file_of(&chart));
-    put_run(rng, &mut held, &chart, 0, some_transition(rng, &chart));
-    let made = held.clone();
-    let few = rng.pick(&[0, 1, 2, rng.between(3, 12) as usize, rng.between(13, 60) as usize]);
-    let (many, right) = [(4096, true), (4097, true), (4096, true)].get(number as usize % 2000).copied().unwrap_or((few, false));
-    let clocks = shift_clocks(rng, held[Clock][0], many, &due_times(&chart));
+// A shift on a held chart and run, by an index if it has one, the lengths of its three lists, whether its first cycle is refused by 11, and what a
+// call has too.
+struct Shift {
+    held: Held,
+    index: Option<Leaving>,
+    lengths: [usize; 3],
+    late: bool,
+    fits: bool,
+    by_edition: bool,
+}
+
+// What a shift is made on: as it was made, or altered; of one that is as long as may be, or longer, both marks and both editions.
+fn alter_shifted(rng: &Rng, held: &mut Held, number: u64, right: bool) {
     match rng.below(20) {
         0..=2 if !right => {
             let (from, to) = rng.pick(&[(0, RUN), (RUN, LAYOUT.len())]);
-            alter_held(rng, &mut held, from..to);
+            alter_held(rng, held, from..to);
         }
         3 if !right => held[Edition][0] = no_edition(rng),
         _ => {}
@@ -958,24 +1072,35 @@ fn shift_case(rng: &Rng, number: u64) -> Case {
         held[Hold][0] = number / 2 % 2;
         held[Edition][0] = 1 + (number / 2 + number / 2000) % 2;
     }
+}
+
+// Three in 2,000 shifts are as long as may be, or by one longer, and all else is right: each costs as much as a hundred others. They are by an index
+// in every second 2,000.
+fn shift_case(rng: &Rng, number: u64) -> Case {
+    let chart = random_chart(rng);
+    let mut held = Held::of(&file_of(&chart));
+    put_run(rng, &mut held, &chart, 0, some_transition(rng, &chart));
+    let made = held.clone();
+    let few = rng.pick(&[0, 1, 2, rng.between(3, 12) as usize, rng.between(13, 60) as usize]);
+    let (many, right) = [(4096, true), (4097, true), (4096, true)].get(number as usize % 2000).copied().unwrap_or((few, false));
+    let clocks = shift_clocks(rng, held[Clock][0], many, &due_times(&chart));
+    alter_shifted(rng, &mut held, number, right);
+    let index = match right {
+        true => (number / 2000 % 2 == 1).then(|| Leaving { words: index_of(&held, Sources), way: None }),
+        false => rng.chance(30).then(|| some_index(rng, &mut held)),
+    };
     let (fits, by_edition) = (held.equals_but_mark(&made), held.differs_by_edition(&made));
     let uneven = || if right || rng.chance(90) { many } else { rng.pick(&[many + 1, many.max(1) - 1]) };
     let (inputs, words) = (uneven(), uneven());
     let lent = if right || rng.chance(80) { 32 } else { rng.pick(&[31, 0, 33, 255]) };
-    let mut bytes = request(&held, SHIFT, (many | inputs << 16) as u64, words as u64, lent, 0);
+    let kind = if index.is_some() { SHIFT_BY } else { SHIFT };
+    let mut bytes = request(&held, kind, (many | inputs << 16) as u64, words as u64, lent, 0);
+    index.iter().flat_map(|index| &index.words).for_each(|word| put(&mut bytes, *word, 8));
     clocks.iter().for_each(|clock| put(&mut bytes, *clock, 4));
     (0..inputs).for_each(|_| put(&mut bytes, inputs_for(rng, &chart, None), 4));
-    let (mark, length) = (held[Hold][0], many as u64);
-    let count = move |reached: &mut Reached, line: &str| {
-        count_shift(reached, length, "", line);
-        count_held_shift(reached, length, mark, fits, line);
-        count_edition(reached, "shift", held.is_second(), by_edition, line);
-        if held.is_second() {
-            count_shift(reached, length, IN_2, line);
-            count_second_shift(reached, &held, line);
-        }
-    };
-    Case { request: bytes, count: Box::new(count) }
+    let late = clocks.first().is_some_and(|clock| reading(*clock as i64 - held[Clock][0] as i64) > MINUTE as u64);
+    let shift = Shift { held, index, lengths: [many, inputs, words], late, fits, by_edition };
+    Case { request: bytes, count: Box::new(move |reached, line| count_any_shift(reached, &shift, line)) }
 }
 
 // A chart file, or none, and a trace.
@@ -1041,7 +1166,7 @@ impl Reached {
 
 // What a comparison must reach: without it equal answers say nothing of it.
 fn needed() -> Vec<String> {
-    let mut names: Vec<String> = (1..=18).map(|code| format!("refused {code}")).collect();
+    let mut names: Vec<String> = (1..=18).chain([20]).map(|code| format!("refused {code}")).collect();
     for (q, name) in (0..).zip(NAMES).filter(|(q, _)| *q != R) {
         let timed = TIMED.contains(&q);
         let of = |what: &str| format!("{name} {what}");
@@ -1060,13 +1185,15 @@ fn needed() -> Vec<String> {
     names.extend(NEEDED.iter().map(|name| name.to_string()));
     names.extend(needed_of_hold());
     names.extend(needed_of_editions());
+    names.extend(needed_of_indexes());
     names
 }
 
 // Under hold none is taken, so no source is used and no target claimed; and no edge makes P, P1 or P0 active.
 fn needed_of_hold() -> Vec<String> {
     let mut names: Vec<String> = [1, 3, 4, 5].iter().map(|reason| format!("reason 7 before {reason}")).collect();
-    names.extend(["cycle", "tally", "shift", "hold", "release"].map(|call| format!("{call} refused by the mark alone")));
+    let marked = ["cycle", "tally", "shift", "hold", "release", "cycle by index", "shift by index"];
+    names.extend(marked.map(|call| format!("{call} refused by the mark alone")));
     for q in [N, S, L, D, SD, DS, SL] {
         names.extend(["active", "not active"].map(|so| format!("{} {so} under hold", NAMES[q as usize])));
     }
@@ -1135,13 +1262,85 @@ const NEEDED_OF_EDITIONS: [&str; 19] = [
     "printed step left and entered", "printed target that stays",
 ];
 
+// behind the name of what is counted by an index by itself
+const BY: &str = " by index";
+
+// The faults that a call by an index may have behind 15 and the chart's, in the order in which they are tested.
+const CYCLE_FAULTS: [u64; 3] = [20, 12, 11];
+const SHIFT_FAULTS: [u64; 4] = [20, 12, 18, 11];
+
+// Calls by an index: each refusal, by itself and with each fault behind it; 20 in each way that an index can be another; and in both editions, held
+// and not, the same answers where transitions are consulted and where they are not.
+fn needed_of_indexes() -> Vec<String> {
+    let mut names = Vec::new();
+    for (call, faults) in [("cycle", &CYCLE_FAULTS[..]), ("shift", &SHIFT_FAULTS[..])] {
+        names.extend(["15", "by the chart"].map(|code| format!("{call}{BY} refused {code}")));
+        names.extend(["15", "by the chart"].map(|code| format!("{call}{BY} refused {code} with 20")));
+        for (k, code) in faults.iter().enumerate() {
+            names.push(format!("{call}{BY} refused {code}"));
+            names.extend(faults[k + 1..].iter().map(|late| format!("{call}{BY} refused {code} with {late}")));
+        }
+        names.extend(WAYS.map(|way| format!("{call}{BY} refused 20 by {way}")));
+        for edition in [1, 2] {
+            names.extend(["under", "without"].map(|so| format!("{call}{BY} accepted {so} hold in edition {edition}")));
+        }
+    }
+    for edition in [1, 2] {
+        names.extend(CONSULTED.map(|name| format!("{name} in edition {edition}")));
+        names.extend([1, 2, 3, 4, 7].map(|reason| format!("reason {reason}{BY} in edition {edition}")));
+    }
+    names.extend([5, 6].map(|reason| format!("reason {reason}{BY} in edition 1")));
+    names.extend((4..=9).map(|code| format!("building refused {code}")));
+    names.extend(SHIFTED.map(|name| format!("{name}{BY}")));
+    names.extend(NEEDED_OF_BUILDING.map(str::to_string));
+    names
+}
+
+#[rustfmt::skip]
+const CONSULTED: [&str; 11] = [
+    "taken by index", "two taken by index", "several consulted", "several consulted of one step", "none consulted", "all consulted",
+    "some not consulted", "taken beside some not consulted", "consulted by one source of two",
+    "kept by an earlier one that leaves a later step", "moved by a shift by index",
+];
+
+const SHIFTED: [&str; 8] = [
+    "shift refused at its beginning",
+    "shift refused in its middle",
+    "shift refused at its end",
+    "shift refused nowhere",
+    "shift of 0",
+    "shift of 1",
+    "shift of 4096",
+    "shift of 4097",
+];
+
+#[rustfmt::skip]
+const NEEDED_OF_BUILDING: [&str; 9] = [
+    "building accepted", "built of no transition", "built with a word of several transitions", "built with a transition in several words",
+    "built of 64 steps", "built of 64 transitions", "built beside a run that is none", "built with fewer than 32 outputs", "built too late",
+];
+
+// What an index must not do: an earlier fault is refused first, any fault is refused, and its own number is for an index that is another.
+fn never_of_indexes() -> Vec<String> {
+    let mut names = [11, 12, 15, 18, 20].map(|code| format!("building refused {code}")).to_vec();
+    for (call, faults) in [("cycle", &CYCLE_FAULTS[..]), ("shift", &SHIFT_FAULTS[..])] {
+        for (k, code) in faults.iter().enumerate() {
+            names.push(format!("{call}{BY} accepted with {code}"));
+            names.extend(faults[..k].iter().map(|early| format!("{call}{BY} refused {code} with {early}")));
+        }
+        names.push(format!("{call}{BY} refused 20 by the chart itself"));
+    }
+    names
+}
+
 // What must not be reached: in edition 2 no target is tested; a second line has no reason that needs a transition taken, nor a key; kind 6 is neither
-// above 6 nor smaller than any kind before it.
+// above 6 nor smaller than any kind before it; and what an index must not do.
 fn never() -> Vec<String> {
     let mut names = vec!["refused 2 by the edition record".to_string()];
     names.extend([5, 6].map(|reason| format!("reason {reason}{IN_2}")));
     names.extend([5, 6].map(|reason| format!("printed reason {reason}{IN_2}")));
     names.extend([0, 2, 6, 7].map(|reason| format!("printed reason {reason}")));
+    names.extend(never_of_indexes());
     names
 }
 
@@ -1533,22 +1732,113 @@ fn count_held(reached: &mut Reached, call: &Call, line: &str) {
     for edition in [0, 3, 255] {
         reached.note(&format!("edition {edition} refused"), code == 5 && call.by_edition && call.held[Edition][0] == edition);
     }
-    // where the mark is none, it refuses the run whatever other field is above its limit
-    if let Some((field, above)) = call.limit.filter(|(field, _)| *field == Hold || mark < 2) {
+    // where the mark is none, it refuses the run whatever other field is above its limit; by an index the chart may have been altered since
+    if let Some((field, above)) = call.limit.filter(|(field, _)| call.index.is_none() && (*field == Hold || mark < 2)) {
         count_limit(reached, call.kind, field, above, code);
     }
-    if call.kind != START && call.kind != WEIGHING {
+    if ![START, WEIGHING, INDEX].contains(&call.kind) {
         count_mark(reached, name, mark, call.fits, code);
     }
+    call.index.iter().for_each(|index| count_cycle_by(reached, call, index, line));
     match call.kind {
         CYCLE if code == 11 => reached.note("cycle refused 11 under hold", mark == 1),
         HOLD | RELEASE => reached.note(&format!("{name} refused by the chart"), (4..=9).contains(&code)),
-        _ if code > 0 => {}
-        START => count_call(reached, &Call { held: call.held.still(), clock: 0, inputs: 0, ..*call }, line),
+        INDEX => count_built(reached, call, line),
+        _ if code > 0 || call.kind == CYCLE_BY => {}
+        START => count_call(reached, &Call { held: call.held.still(), clock: 0, inputs: 0, index: None, ..*call }, line),
         CYCLE => count_cycle(reached, call, numbers[1], line),
         TALLY => count_tally(reached, &numbers[1..]),
         _ => reached.note("balanced", numbers[2] > 0),
     }
+}
+
+// An index that is built, by its words; and nothing but the chart is tested for it.
+fn count_built(reached: &mut Reached, call: &Call, line: &str) {
+    let numbers = answered(line, 65);
+    let (held, code, words) = (&call.held, numbers[0], &numbers[1..]);
+    if code > 0 {
+        return reached.add(&format!("building refused {code}"), 1);
+    }
+    let shared = words.iter().enumerate().any(|(k, word)| words[..k].iter().any(|other| other & word != 0));
+    reached.note("built of no transition", words.iter().all(|word| *word == 0));
+    reached.note("built with a word of several transitions", words.iter().any(|word| word.count_ones() > 1));
+    reached.note("built with a transition in several words", shared);
+    reached.note("built of 64 steps", held.count(Steps) == 64);
+    reached.note("built of 64 transitions", held.count(Transitions) == 64);
+    reached.note("built beside a run that is none", held[Hold][0] > 1);
+    reached.note("built with fewer than 32 outputs", call.lent < 32);
+    reached.note("built too late", elapsed(call) > MINUTE as u64);
+}
+
+// A call by an index, by its number and by each fault beside it that comes behind 15 and the chart's; of 20, by the way in which the index was made.
+fn count_by(reached: &mut Reached, name: &str, index: &Leaving, faults: &[u64], code: u64) {
+    let said = match code {
+        0 => "accepted".to_string(),
+        4..=9 => "refused by the chart".to_string(),
+        _ => format!("refused {code}"),
+    };
+    if code > 0 {
+        reached.add(&format!("{name} {said}"), 1);
+    }
+    for fault in faults.iter().filter(|fault| **fault != code) {
+        reached.add(&format!("{name} {said} with {fault}"), 1);
+    }
+    if code == 20 {
+        let way = index.way.filter(|_| faults.contains(&20)).map_or("the chart itself", |way| WAYS[way]);
+        reached.add(&format!("{name} refused 20 by {way}"), 1);
+    }
+}
+
+// Whether the index is another chart's. That is no fault yet where 15 is the answer and the chart may be at fault too.
+fn is_other(held: &Held, index: &Leaving, fits: bool, code: u64) -> bool {
+    index.words != index_of(held, Sources) && (code != 15 || fits)
+}
+
+fn count_cycle_by(reached: &mut Reached, call: &Call, index: &Leaving, line: &str) {
+    let numbers = answered(line, 2);
+    let (held, code) = (&call.held, numbers[0]);
+    let other_run = held[Hold][0] > 1 || call.limit.is_some_and(|(field, above)| above && field as usize >= RUN);
+    let so = [(20, is_other(held, index, call.fits, code)), (12, other_run), (11, elapsed(call) > MINUTE as u64)];
+    let faults: Vec<u64> = so.iter().filter(|(_, so)| *so).map(|(fault, _)| *fault).collect();
+    count_by(reached, "cycle by index", index, &faults, code);
+    if code == 0 {
+        let so = if held.is_held() { "under" } else { "without" };
+        reached.add(&format!("cycle by index accepted {so} hold in edition {}", held[Edition][0]), 1);
+        count_consulted(reached, held, index, numbers[1], line);
+    }
+}
+
+// An accepted cycle by the chart's index: the transitions that leave some active step, which it consults, and those that it does not.
+fn count_consulted(reached: &mut Reached, held: &Held, index: &Leaving, taken: u64, line: &str) {
+    let (active, all, edition) = (held[Active][0], numbers(held.count(Transitions)), format!(" in edition {}", held[Edition][0]));
+    let consulted = members(active).iter().fold(0, |set, step| set | index.words[*step]);
+    let reasons: Vec<&str> = line.split(' ').rev().take(64).collect();
+    for reason in reasons.iter().filter(|reason| **reason != "0") {
+        reached.add(&format!("reason {reason}{BY}{edition}"), 1);
+    }
+    if held.is_held() {
+        return;
+    }
+    let mut note = |name: &str, so: bool| reached.note(&format!("{name}{edition}"), so);
+    note("taken by index", taken != 0);
+    note("two taken by index", taken.count_ones() > 1);
+    note("several consulted", consulted.count_ones() > 1);
+    note("several consulted of one step", members(active).iter().any(|step| index.words[*step].count_ones() > 1));
+    note("none consulted", consulted == 0 && all != 0);
+    note("all consulted", consulted == all && all != 0);
+    note("some not consulted", consulted != all);
+    note("taken beside some not consulted", taken != 0 && consulted != all);
+    note("consulted by one source of two", members(consulted).iter().any(|t| held[Sources][*t] & !active != 0));
+    // the last of the line's numbers is that of transition 63
+    let kept = members(consulted).into_iter().filter(|t| ["2", "6"].contains(&reasons[63 - t]));
+    note("kept by an earlier one that leaves a later step", kept.into_iter().any(|t| is_kept_by_later_step(held, taken, t)));
+}
+
+// Whether a transition taken before this one uses a source or claims a target of it, and leaves none but later steps than this one's first.
+fn is_kept_by_later_step(held: &Held, taken: u64, t: usize) -> bool {
+    let meets = |field: Field, earlier: usize| held[field][earlier] & held[field][t] != 0;
+    let earlier = members(taken & numbers(t)).into_iter().filter(|earlier| meets(Sources, *earlier) || meets(Targets, *earlier));
+    earlier.into_iter().any(|earlier| held[Sources][earlier].trailing_zeros() > held[Sources][t].trailing_zeros())
 }
 
 // By the number of lent bytes, where nothing else refuses a writing; of both editions, or of edition 2 once more by itself.
@@ -1564,7 +1854,41 @@ fn count_written(reached: &mut Reached, size: u64, lent: u64, edition: &str, lin
     reached.note("written in 6,441 bytes", code == 0 && length == 6441);
 }
 
-// A length is counted where it was judged: 18 comes behind 15, the chart's numbers and 12. Of both editions, or of edition 2 once more by itself.
+fn count_any_shift(reached: &mut Reached, shift: &Shift, line: &str) {
+    let (held, length, mark) = (&shift.held, shift.lengths[0] as u64, shift.held[Hold][0]);
+    if let Some(index) = &shift.index {
+        return count_shift_by(reached, shift, index, line);
+    }
+    count_shift(reached, length, "", line);
+    count_held_shift(reached, length, mark, shift.fits, line);
+    count_edition(reached, "shift", held.is_second(), shift.by_edition, line);
+    if held.is_second() {
+        count_shift(reached, length, IN_2, line);
+        count_second_shift(reached, held, line);
+    }
+}
+
+// A shift by an index, apart from the others; one that leaves other steps active took a transition.
+fn count_shift_by(reached: &mut Reached, shift: &Shift, index: &Leaving, line: &str) {
+    let (held, [many, inputs, words], numbers) = (&shift.held, shift.lengths, answered(line, 4));
+    let (code, accepted, edition) = (numbers[0], numbers[1], held[Edition][0]);
+    let uneven = many != inputs || many != words || many > 4096;
+    let so = [(20, is_other(held, index, shift.fits, code)), (12, held[Hold][0] > 1), (18, uneven), (11, shift.late)];
+    let faults: Vec<u64> = so.iter().filter(|(_, so)| *so).map(|(fault, _)| *fault).collect();
+    reached.answer(code, "shifts by index accepted");
+    count_by(reached, "shift by index", index, &faults, code);
+    count_shift(reached, many as u64, BY, line);
+    count_mark(reached, "shift by index", held[Hold][0], shift.fits, code);
+    count_edition(reached, "shift by index", held.is_second(), shift.by_edition, line);
+    if code == 0 && accepted > 0 {
+        let so = if held.is_held() { "under" } else { "without" };
+        reached.add(&format!("shift by index accepted {so} hold in edition {edition}"), 1);
+        reached.note(&format!("moved by a shift by index in edition {edition}"), numbers[3] != held[Active][0]);
+    }
+}
+
+// A length is counted where it was judged: 18 comes behind 15, the chart's numbers and 12. Of both editions, or of edition 2 once more by itself; and
+// apart from both by an index.
 fn count_shift(reached: &mut Reached, length: u64, edition: &str, line: &str) {
     let numbers = answered(line, 2);
     let (code, accepted) = (numbers[0], numbers[1]);

@@ -3,7 +3,8 @@
      driver read_charts    a file, read: number, place, counts, edition
      driver write_back     a file, read and written back: the reading's number if refused, else the writing's, the length, whether it is the same
      driver list_records   a single file: each record, the end or the refusal, and the last answer asked for again
-     driver run_cycles     a file, a start, then cycles and turns of the key: for each call its whole answer
+     driver run_cycles     a file, a start, then cycles and turns of the key: for each call its whole answer; each cycle by the chart's index too,
+                           and in front of its line what differs then
      driver lent_cycles    the same by tw_advance: number, taken, active, activity, clock, hold mark, reasons
      driver held_calls     any chart, any run and a call: its whole answer and all that was lent; tests/held_calls.py has the form
 
@@ -24,6 +25,7 @@ enum { LENT = 256, LIST = TW_SHIFT + 1 };
 static uint8_t file[65536], written[65536];
 static struct tw_chart chart;
 static struct tw_run run;
+static struct tw_index chart_index;
 static int32_t outputs[LENT];
 static uint8_t reasons[TW_TRANSITIONS];
 
@@ -256,6 +258,43 @@ static void lent_cycles_line(enum tw_code code, uint64_t taken)
 typedef enum tw_code cycle_call(const struct tw_chart *, struct tw_run *, uint32_t, uint32_t, int32_t *, size_t, uint64_t *, uint8_t *);
 typedef void line_of_call(enum tw_code code, uint64_t taken);
 
+/* tw_cycle_by with the index at hand. */
+static enum tw_code cycle_by(const struct tw_chart *c, struct tw_run *r, uint32_t clock, uint32_t inputs, int32_t *o, size_t lent, uint64_t *taken,
+	uint8_t *why)
+{
+	return tw_cycle_by(c, &chart_index, r, clock, inputs, o, lent, taken, why);
+}
+
+static void say_if(bool differs, const char *what)
+{
+	if (differs) {
+		word("index");
+		word(what);
+	}
+}
+
+/* tw_cycle, after tw_cycle_by on copies of all that it writes, since a cycle by the index "gives the same answer throughout" (document 02, request ix).
+   The runs are copied and compared as they lie: no call writes between their fields. */
+static enum tw_code cycle_both_ways(const struct tw_chart *c, struct tw_run *r, uint32_t clock, uint32_t inputs, int32_t *o, size_t lent,
+	uint64_t *taken, uint8_t *why)
+{
+	static struct tw_run run_by;
+	static int32_t outputs_by[LENT];
+	static uint8_t reasons_by[TW_TRANSITIONS];
+	uint64_t taken_by = UINT64_MAX;
+	memcpy(&run_by, r, sizeof run_by);
+	memcpy(outputs_by, o, lent * sizeof *o);
+	memcpy(reasons_by, why, sizeof reasons_by);
+	enum tw_code code_by = cycle_by(c, &run_by, clock, inputs, outputs_by, lent, &taken_by, reasons_by);
+	enum tw_code code = tw_cycle(c, r, clock, inputs, o, lent, taken, why);
+	say_if(code_by != code, "number");
+	say_if(taken_by != *taken, "taken");
+	say_if(memcmp(reasons_by, why, sizeof reasons_by) != 0, "reasons");
+	say_if(memcmp(&run_by, r, sizeof run_by) != 0, "run");
+	say_if(memcmp(outputs_by, o, lent * sizeof *o) != 0, "outputs");
+	return code;
+}
+
 static bool one_cycle(cycle_call *cycle, line_of_call *line)
 {
 	uint32_t clock, inputs;
@@ -297,6 +336,7 @@ static bool one_run(cycle_call *cycle, line_of_call *line)
 	if (!take_file(&size) || !take(&clock, sizeof clock) || !take(&calls, sizeof calls))
 		return false;
 	tw_read(file, size, &chart, &place);
+	tw_index(&chart, &chart_index);
 	memset(outputs, 0, sizeof outputs);
 	other_call(tw_start(&chart, &run, clock, outputs, TW_OUTPUTS), line);
 	for (; calls > 0; calls--)
@@ -307,7 +347,7 @@ static bool one_run(cycle_call *cycle, line_of_call *line)
 
 static bool run_cycles(void)
 {
-	return one_run(tw_cycle, run_cycles_line);
+	return one_run(cycle_both_ways, run_cycles_line);
 }
 
 static bool lent_cycles(void)
@@ -338,11 +378,11 @@ static void held_run(enum tw_code code, uint64_t taken_or_accepted, size_t lent)
 	lent_outputs(lent);
 }
 
-static void held_cycle(uint32_t clock, uint32_t inputs, size_t lent)
+static void held_cycle(cycle_call *cycle, uint32_t clock, uint32_t inputs, size_t lent)
 {
 	uint64_t taken;
 	memset(reasons, 255, sizeof reasons);
-	enum tw_code code = tw_cycle(&chart, &run, clock, inputs, outputs, lent, &taken, reasons);
+	enum tw_code code = cycle(&chart, &run, clock, inputs, outputs, lent, &taken, reasons);
 	held_run(code, taken, lent);
 	for (size_t t = 0; t < TW_TRANSITIONS; t++)
 		number(reasons[t]);
@@ -376,7 +416,15 @@ static void held_writing(size_t lent)
 		number(written[k]);
 }
 
-static bool held_shift(size_t nclocks, size_t ninputs, size_t nactivities, size_t lent)
+static void held_index(void)
+{
+	memset(&chart_index, 255, sizeof chart_index);
+	number(tw_index(&chart, &chart_index));
+	for (size_t k = 0; k < TW_STEPS; k++)
+		number(chart_index.leaving[k]);
+}
+
+static bool held_shift(bool by_index, size_t nclocks, size_t ninputs, size_t nactivities, size_t lent)
 {
 	static uint32_t clocks[LIST], inputs[LIST];
 	static uint64_t activities[LIST];
@@ -385,7 +433,9 @@ static bool held_shift(size_t nclocks, size_t ninputs, size_t nactivities, size_
 		return false;
 	for (size_t k = 0; k < nactivities; k++)
 		activities[k] = (UINT64_C(1) << 32) + k;
-	enum tw_code code = tw_shift(&chart, &run, clocks, nclocks, inputs, ninputs, activities, nactivities, outputs, lent, &accepted);
+	enum tw_code code = by_index
+		? tw_shift_by(&chart, &chart_index, &run, clocks, nclocks, inputs, ninputs, activities, nactivities, outputs, lent, &accepted)
+		: tw_shift(&chart, &run, clocks, nclocks, inputs, ninputs, activities, nactivities, outputs, lent, &accepted);
 	held_run(code, accepted, lent);
 	for (size_t k = 0; k < nactivities; k++)
 		number(activities[k]);
@@ -401,26 +451,29 @@ static size_t list_length(uint32_t n)
 
 static bool held_calls(void)
 {
-	enum { START, CYCLE, TALLY, WEIGHING, WRITING, SHIFT, HOLD, RELEASE };
+	enum { START, CYCLE, TALLY, WEIGHING, WRITING, SHIFT, HOLD, RELEASE, INDEX, CYCLE_BY, SHIFT_BY };
 	uint8_t kind, lent, nweights;
 	uint32_t clock, inputs;
 	uint16_t weights[256];
 	if (!take(&chart, sizeof chart) || !take_run() || !take(&kind, sizeof kind) || !take(&clock, sizeof clock)
-		|| !take(&inputs, sizeof inputs) || !take(&lent, sizeof lent) || !take(&nweights, sizeof nweights))
+		|| !take(&inputs, sizeof inputs) || !take(&lent, sizeof lent) || !take(&nweights, sizeof nweights)
+		|| !take(weights, nweights * sizeof *weights))
+		return false;
+	if ((kind == CYCLE_BY || kind == SHIFT_BY) && !take(chart_index.leaving, sizeof chart_index.leaving))
 		return false;
 	for (int32_t k = 0; k < LENT; k++)
 		outputs[k] = 1000 + k;
-	if (kind == SHIFT)
-		return held_shift(list_length(clock & 0xffff), list_length(clock >> 16), list_length(inputs & 0xffff), lent);
-	if (!take(weights, nweights * sizeof *weights))
-		return false;
+	if (kind == SHIFT || kind == SHIFT_BY)
+		return held_shift(kind == SHIFT_BY, list_length(clock & 0xffff), list_length(clock >> 16), list_length(inputs & 0xffff), lent);
 	switch (kind) {
 	case START: held_run(tw_start(&chart, &run, clock, outputs, lent), 0, lent); break;
-	case CYCLE: held_cycle(clock, inputs, lent); break;
+	case CYCLE: held_cycle(tw_cycle, clock, inputs, lent); break;
+	case CYCLE_BY: held_cycle(cycle_by, clock, inputs, lent); break;
 	case TALLY: held_tally(); break;
 	case WRITING: held_writing(clock & 0xffff); break;
 	case HOLD: held_run(tw_hold(&chart, &run), 0, 0); break;
 	case RELEASE: held_run(tw_release(&chart, &run), 0, 0); break;
+	case INDEX: held_index(); break;
 	default: held_weighing(weights, nweights);
 	}
 	end_line();

@@ -9,13 +9,18 @@ nothing here runs the engine. tests/cases.rs makes random cases of the same form
 
 Images, the least byte of each number first: every field of the chart and of the run in full length, as the tables CHART and RUN
 have them; the chart's is the struct as it lies, with seven bytes behind the edition that belong to no field and are 0. The call: kind
-(0 start, 1 cycle, 2 tally, 3 weighing, 4 writing, 5 shift, 6 hold, 7 release), clock, inputs, number of lent outputs, number of
-weights, and the weights; of a writing, the clock is the number of lent bytes; of a shift, the clock's halves are the numbers of
-clocks and of inputs, the inputs' lower half that of lent activity words, and its clocks and inputs follow. Before the call lent
-output k holds 1000 + k, lent byte k holds k % 251, and activity word k holds 2^32 + k. A line of start or cycle: code, transitions taken, clock, active, activity, stored, latched, good, bad, hold, 64 step counters, 32 action timers, the
-lent outputs, and of a cycle 64 reasons; of a tally: code, passed, failed, not run; of a weighing: code, transition, total; of a
-writing: code, length, the lent bytes; of a shift: code, accepted cycles, then as of a start, and the activity words; of a hold or a
-release: code, 0, then as of a start, without the outputs, which are not lent to it.
+(0 start, 1 cycle, 2 tally, 3 weighing, 4 writing, 5 shift, 6 hold, 7 release, 8 building an index, 9 cycle by an index, 10 shift by
+an index), clock, inputs, number of lent outputs, number of weights, and the weights; of a writing, the clock is the number of lent
+bytes; of 9 and 10, the index's 64 words follow; of a shift, the clock's halves are the numbers of clocks and of inputs, the inputs'
+lower half that of lent activity words, and its clocks and inputs follow, behind the index if it is by one. Before the call lent
+output k holds 1000 + k, lent byte k holds k % 251, activity word k holds 2^32 + k, a reason 255, and a word of an index that is
+built 2^64 - 1.
+
+A line of start or cycle: code, transitions taken, clock, active, activity, stored, latched, good, bad, hold, 64 step counters, 32
+action timers, the lent outputs, and of a cycle 64 reasons; of a tally: code, passed, failed, not run; of a weighing: code,
+transition, total; of a writing: code, length, the lent bytes; of a shift: code, accepted cycles, then as of a start, and the
+activity words; of a hold or a release: code, 0, then as of a start, without the outputs, which are not lent to it; of an index that
+is built: code, its 64 words.
 """
 import struct
 import sys
@@ -25,7 +30,7 @@ from read_charts import (  # noqa: E402
     CHART_A, D, DAY, DS, EDITION, END, FULL as FULL_CHART, L, P, P0, P1, SD, SL, action, case, second, step, store,
 )
 
-START, CYCLE, TALLY, WEIGHING, WRITING, SHIFT, HOLD, RELEASE = range(8)
+START, CYCLE, TALLY, WEIGHING, WRITING, SHIFT, HOLD, RELEASE, INDEX, CYCLE_BY, SHIFT_BY = range(11)
 LIMITS = {"steps": 64, "actions": 32, "transitions": 64, "blocks": 256, "cases": 64}
 
 # name, form, how many
@@ -90,9 +95,21 @@ def request(chart, run, kind, clock=0, inputs=0, lent=32, weights=()):
     return packed(CHART, chart) + packed(RUN, run) + call
 
 
-def shift_request(chart, run, clocks, inputs, words, lent=32):
+def shift_request(chart, run, clocks, inputs, words, lent=32, index=None):
     lists = struct.pack(f"<{len(clocks)}I{len(inputs)}I", *clocks, *inputs)
-    return request(chart, run, SHIFT, len(clocks) | len(inputs) << 16, words, lent) + lists
+    kind, leaving = (SHIFT, b"") if index is None else (SHIFT_BY, index_words(index))
+    return request(chart, run, kind, len(clocks) | len(inputs) << 16, words, lent) + leaving + lists
+
+
+def index_words(index):
+    """An index from those of its words that are not 0, by their step."""
+    return struct.pack("<64Q", *(index.get(k, 0) for k in range(64)))
+
+
+def index_of(chart):
+    """Document 02, request (ix): "for every step, the set of transitions that have it as a source". Of a chart that is refused it is any index."""
+    transitions = range(min(chart["transitions"][0], 64))
+    return {k: sum(1 << t for t in transitions if chart["sources"][t] >> k & 1) for k in range(min(chart["steps"][0], 64))}
 
 
 # Lines
@@ -130,13 +147,18 @@ def start(line, chart=NONE, run=STILL, clock=1000, lent=32):
     CASES.append((request(altered(A, chart), run, START, clock, 0, lent), line))
 
 
-def cycle(line, chart=NONE, run=BEGUN, clock=1010, inputs=1, lent=32):
-    CASES.append((request(altered(A, chart), run, CYCLE, clock, inputs, lent), line))
+def cycle(line, chart=NONE, run=BEGUN, clock=1010, inputs=1, lent=32, index=None):
+    """By this index; or without one, and by that of the chart, which "gives the same answer throughout" (document 02, request ix)."""
+    image = altered(A, chart)
+    if index is None:
+        CASES.append((request(image, run, CYCLE, clock, inputs, lent), line))
+        index = index_of(image)
+    CASES.append((request(image, run, CYCLE_BY, clock, inputs, lent) + index_words(index), line))
 
 
-def refused(code, chart=NONE, run=BEGUN, clock=1010, lent=32):
+def refused(code, chart=NONE, run=BEGUN, clock=1010, lent=32, index=None):
     """A refused cycle returns the run it was given, and leaves the outputs; its reasons are 0."""
-    cycle(cycled(code, 0, run, lent), chart, run, clock, 1, lent)
+    cycle(cycled(code, 0, run, lent), chart, run, clock, 1, lent, index)
 
 
 def tally(line, chart=NONE, run=STILL):
@@ -154,18 +176,30 @@ def writing(code, lent, file=b"", chart=NONE):
     CASES.append((request(altered(A, chart), STILL, WRITING, clock=lent), text))
 
 
-def shift(code, clocks, inputs, words=None, run=BEGUN, chart=NONE, lent=32, found=(), after=None, driven=None):
-    """The activity words found and the run after them; those behind stay. Nothing found leaves run, outputs and words."""
+def shift(code, clocks, inputs, words=None, run=BEGUN, chart=NONE, lent=32, found=(), after=None, driven=None, index=None):
+    """The activity words found and the run after them; those behind stay. Nothing found leaves run, outputs and words. By an index as a cycle."""
     words = len(clocks) if words is None else words
     left = [*found, *(2**32 + k for k in range(len(found), words))]
     text = " ".join([line(code, len(found), after or run, lent, driven), *map(str, left)])
-    CASES.append((shift_request(altered(A, chart), run, clocks, inputs, words, lent), text))
+    image = altered(A, chart)
+    if index is None:
+        CASES.append((shift_request(image, run, clocks, inputs, words, lent), text))
+        index = index_of(image)
+    CASES.append((shift_request(image, run, clocks, inputs, words, lent, index), text))
 
 
 def key(kind, code, run, chart=NONE, clock=1000, lent=32):
     """Accepted, the mark is 1 or 0 and nothing else is changed; refused, nothing is. The clock, the inputs and the outputs play no part."""
     after = run if code else altered(run, {"hold": int(kind == HOLD)})
     CASES.append((request(altered(A, chart), run, kind, clock, 1, lent), line(code, 0, after, 0)))
+
+
+def building(code, index=NONE, chart=NONE, run=STILL, clock=0, lent=32):
+    """The words by hand, of which those that are not named are 0, as all are of a refused chart. The run, the clock and the outputs play no part."""
+    image = altered(A, chart)
+    assert code or index_words(index) == index_words(index_of(image))
+    text = " ".join(map(str, [code, *(index.get(k, 0) for k in range(64))]))
+    CASES.append((request(image, run, INDEX, clock, 1, lent), text))
 
 
 # The printed run of chart A, call by call; step 0 has no active action, step 1 drives output 0 by action 0, value 120
@@ -418,7 +452,7 @@ TWO = {"edition": 2}
 
 
 def by_every_call(code, chart, run=BEGUN):
-    """The chart's number from each of the eight calls, on a run of chart A at 1000 that with chart A they would accept."""
+    """The chart's number from each of the eleven calls, on a run of chart A at 1000 that with chart A they would accept."""
     start(line(code, 0, STILL), chart, run)
     refused(code, chart, run)
     tally(f"{code} 0 0 0", chart, run)
@@ -427,6 +461,7 @@ def by_every_call(code, chart, run=BEGUN):
     shift(code, [1010, 1510], [1, 2], run=run, chart=chart)
     key(HOLD, code, run, chart)
     key(RELEASE, code, altered(run, {"hold": 1}), chart)
+    building(code, chart=chart)
 
 
 for number in (0, 3, 255):
@@ -611,6 +646,216 @@ shift(0, range(1001, 5097), [3] * 4096, run=BOTH, chart=AT_ONCE, found=[1] * 409
 # .. under hold: neither, to the end
 shift(0, [1010, 1509, 1510], [3, 2, 3], run=BOTH_KEYED, chart=TWO, found=[1] * 3,
       after=altered(BOTH_KEYED, {"clock": 1510, "activity": 1}), driven={0: 120})
+
+# Document 02, request (ix): "for every step, the set of transitions that have it as a source". Transition 0 of chart A leaves step 0 and transition 1
+# step 1, in both editions; building tests nothing but the chart
+A_INDEX = {0: 1, 1: 2}
+for chart in (NONE, TWO):
+    building(0, A_INDEX, chart)
+    building(0, A_INDEX, chart, run=OTHERS, clock=61_001, lent=0)
+# entries beyond a count play no part, nor do targets, signals, waits, blocks and cases
+building(0, A_INDEX, {("sources", 2): 2**64 - 1, ("sources", 63): 1, ("targets", 2): 1})
+building(0, A_INDEX, {"steps": 3, ("targets", 0): 6, ("targets", 1): 5, ("on", 0): 0, ("off", 0): 2, ("wait", 1): 0, "blocks": 0, "cases": 0})
+# no transition, one alone, one step alone
+building(0, NONE, {"transitions": 0})
+building(0, {0: 1}, {"transitions": 1})
+building(0, NONE, FEW | {"steps": 1})
+# a fork from 0 to 1 and 2, and a join back
+FORK = {"steps": 3, ("targets", 0): 6, ("sources", 1): 6}
+FORK_INDEX = {0: 1, 1: 2, 2: 2}
+building(0, FORK_INDEX, FORK)
+
+
+def moving(*pairs):
+    """Transitions by their sources and targets, with no signal and no wait."""
+    chart = {"transitions": len(pairs), ("on", 0): 0, ("on", 1): 0, ("wait", 1): 0}
+    for t, (sources, targets) in enumerate(pairs):
+        chart |= {("sources", t): sources, ("targets", t): targets}
+    return chart
+
+
+# several from one step, 0 to 1, 0 to 2, 1 to 0, 1 and 2 to 0, 0 to 1 and 2; none from step 3
+SEVERAL = {"steps": 4} | moving((1, 2), (1, 4), (2, 1), (6, 1), (1, 6))
+SEVERAL_INDEX = {0: 1 + 2 + 16, 1: 4 + 8, 2: 8}
+building(0, SEVERAL_INDEX, SEVERAL)
+building(0, {0: 0x5555_5555_5555_5555, 1: 0xaaaa_aaaa_aaaa_aaaa}, moving(*((1 + t % 2, 2 - t % 2) for t in range(64))))
+# 64 steps and 64 transitions: from each step to the next, and from the last to the first; all from the last step; all from every step but 0
+RING = {"steps": 64} | moving(*((1 << t, 1 << (t + 1) % 64) for t in range(64)))
+FROM_63 = {"steps": 64} | moving(*((2**63, 1 << t % 63) for t in range(64)))
+JOINS = {"steps": 64} | moving(*[(2**64 - 2, 1)] * 64)
+for edition in (NONE, TWO):
+    building(0, {k: 1 << k for k in range(64)}, RING | edition)
+    building(0, {63: 2**64 - 1}, FROM_63 | edition)
+    building(0, dict.fromkeys(range(1, 64), 2**64 - 1), JOINS | edition)
+# "building tests the chart and refused gives all zeros"; the edition's 5 stands above, by every call
+REFUSED_CHARTS = [(4, {count: limit + 1}) for count, limit in LIMITS.items()] + [
+    (4, {"transitions": 2**64 - 1}), (4, {"steps": 2**63}), (5, {("initial", 1): 2}), (5, {("output", 1): 32}), (5, {("sources", 1): 4 + 2}),
+    (5, {("targets", 0): 2**63}), (5, {("on", 1): 2**34}), (5, {("wait", 0): DAY + 1}), (5, {("blockstep", 2): 2}), (5, {("casestep", 0): 2}),
+    (6, {("sources", 0): 0}), (6, {("targets", 1): 0}), (6, {("targets", 0): 3}), (7, {("off", 0): 1}), (9, {("initial", 0): 0}),
+    (9, NOTHING | {"edition": 1}), (8, {("qualifier", 1): L, ("qualifier", 2): SL}),
+]
+for code, chart in REFUSED_CHARTS:
+    building(code, chart=chart)
+    building(code, chart=chart | TWO)
+building(4, chart={"steps": 65, ("initial", 0): 0, "edition": 0})
+building(9, chart={("initial", 0): 0, ("qualifier", 1): L, ("qualifier", 2): SL})
+
+# "20 when it is not exactly the index of this chart, 0 beyond the last step"
+OTHER_INDEXES = [
+    # a bit less; a bit more, of a transition that there is, and of one that there is not
+    {1: 2}, {0: 1}, {0: 3, 1: 2}, {0: 1, 1: 3}, {0: 5, 1: 2}, {0: 1, 1: 2 + 2**63},
+    # something in a word beyond the last step
+    A_INDEX | {2: 1}, A_INDEX | {2: 4}, A_INDEX | {63: 2}, A_INDEX | {63: 2**63}, A_INDEX | {32: 2**32},
+    # all zeros, all ones, every transition for every step that there is; the targets' index, the words one step on, another chart's index
+    NONE, dict.fromkeys(range(64), 2**64 - 1), {0: 3, 1: 3}, {0: 2, 1: 1}, {1: 1, 2: 2}, SEVERAL_INDEX,
+]
+for index in OTHER_INDEXES:
+    for chart, run in ((NONE, BEGUN), (TWO, HELD_0), (TWO, BOTH)):
+        refused(20, chart, run, index=index)
+    for chart, run in ((NONE, HELD), (TWO, BEGUN)):
+        shift(20, [1510, 1600], [1, 2], run=run, chart=chart, index=index)
+# .. where there is no transition, no step beyond the last, or an index that is right but for its last bit
+refused(20, {"transitions": 0}, index={0: 1})
+refused(20, RING, index={k: 1 << k for k in range(63)})
+refused(20, RING, index={k: 1 << (k + 1) % 64 for k in range(64)})
+refused(20, FROM_63, index={63: 2**63 - 1})
+refused(20, FROM_63, index={62: 1, 63: 2**64 - 1})
+# .. with other outputs lent, which stay
+refused(20, lent=64, index=NONE)
+shift(20, [1010], [1], lent=64, index=NONE)
+# a chart altered after its index was built: a source more, a source less, a transition more, one less, none, one turned round, two exchanged, and a
+# step less
+for chart, index in (
+    ({"steps": 3, ("sources", 0): 5}, A_INDEX), (FORK | {("sources", 1): 2}, FORK_INDEX),
+    ({"transitions": 3, ("sources", 2): 1, ("targets", 2): 2}, A_INDEX), ({"transitions": 1}, A_INDEX), ({"transitions": 0}, A_INDEX),
+    ({("sources", 0): 2, ("targets", 0): 1}, A_INDEX), ({("sources", 0): 2, ("targets", 0): 1, ("sources", 1): 1, ("targets", 1): 2}, A_INDEX),
+    ({"steps": 2, ("targets", 0): 2, ("sources", 1): 2}, FORK_INDEX),
+):
+    for edition in (NONE, TWO):
+        refused(20, chart | edition, index=index)
+        shift(20, [1010, 1510], [1, 2], chart=chart | edition, index=index)
+
+# the index stands where something else was altered: the wait, which is over after 10 ms here; a signal; the target, now step 2; a step more, which
+# nothing leaves; blocks; entries beyond a count
+AT_10 = altered(BACK, {"clock": 1020})
+COUNTED = altered(BEGUN, {"clock": 1010, ("counters", 0): 10})
+for edition in (NONE, TWO):
+    cycle(cycled(0, 2, AT_10, driven=NONE, reasons=(1, 0)), {("wait", 1): 10} | edition, IN_1, 1020, inputs=2, index=A_INDEX)
+    shift(0, [1010, 1020], [1, 2], chart={("wait", 1): 10} | edition, found=[3, 0], after=AT_10, driven=NONE, index=A_INDEX)
+    cycle(cycled(0, 0, COUNTED, driven=NONE, reasons=(3, 1)), {("on", 0): 4} | edition, index=A_INDEX)
+    cycle(cycled(0, 0, COUNTED, driven=NONE, reasons=(3, 1)), {("off", 0): 2} | edition, inputs=3, index=A_INDEX)
+    cycle(cycled(0, 1, altered(STILL, {"clock": 1010, "active": 4}), driven=NONE, reasons=(0, 1)),
+          {"steps": 3, ("targets", 0): 4} | edition, index=A_INDEX)
+    shift(0, [1010, 1510], [1, 2], chart={"steps": 3, ("targets", 0): 4} | edition, found=[0, 0],
+          after=altered(STILL, {"clock": 1510, "active": 4, ("counters", 2): 500}), driven=NONE, index=A_INDEX)
+    cycle(cycled(0, 1, IN_1, driven={0: 120}, reasons=(0, 1)), {"steps": 3} | edition, index=A_INDEX)
+    cycle(cycled(0, 1, altered(IN_1, {"activity": 0, "stored": 0}), driven=NONE, reasons=(0, 1)), {"blocks": 0} | edition, index=A_INDEX)
+    cycle(cycled(0, 1, IN_1, driven={0: 120}, reasons=(0, 1)), {("sources", 2): 2**64 - 1, ("sources", 63): 2} | edition, index=A_INDEX)
+
+# "tested after the chart and before 12": a cycle tests 15, chart, 20, 12, 11; two faults at a time, and the chart's each
+refused(15, {"steps": 65}, lent=31, index=A_INDEX)
+refused(15, lent=31, index=NONE)
+refused(15, TWO, lent=0, index=NONE)
+for code, chart in REFUSED_CHARTS:
+    refused(code, chart, index={0: 1, 1: 3})
+    shift(code, [1010], [1], chart=chart | TWO, index={0: 1, 1: 3})
+for number in (0, 3, 255):
+    refused(5, {"edition": number}, index=NONE)
+for run in (OTHER, altered(BEGUN, {"hold": 2}), altered(BEGUN, {("counters", 1): 1}), altered(BEGUN, {"bad": 2})):
+    refused(20, run=run, index=NONE)
+    refused(12, run=run, index=A_INDEX)
+    refused(12, run=run, clock=999, index=A_INDEX)
+    shift(20, [1010], [1], run=run, index=NONE)
+    shift(12, [1010], [1], run=run, index=A_INDEX)
+    shift(12, [1010], [], run=run, index=A_INDEX)
+for clock in (999, 61_001):
+    refused(20, clock=clock, index=NONE)
+    refused(11, clock=clock, index=A_INDEX)
+    shift(20, [clock], [1], index=NONE)
+    shift(11, [clock], [1], index=A_INDEX)
+    shift(18, [clock], [], index=A_INDEX)
+# .. and a shift 15, chart, 20, 12, 18, 11
+shift(15, [1010], [1], chart={"steps": 65}, lent=31, index=A_INDEX)
+shift(15, [1010], [1], lent=31, index=NONE)
+for clocks, inputs, words in (([1010], [], 1), ([1010], [1], 2), ([], [1], 0), (range(1001, 5098), [0] * 4097, 4097)):
+    shift(20, clocks, inputs, words, index=NONE)
+    shift(18, clocks, inputs, words, index=A_INDEX)
+# .. before any cycle, even where there is none
+shift(20, [], [], index=NONE)
+shift(0, [], [], index=A_INDEX)
+# .. all at once, and one less each time
+refused(15, {"steps": 65}, OTHER, 999, 31, NONE)
+refused(4, {"steps": 65}, OTHER, 999, index=NONE)
+refused(20, NONE, OTHER, 999, index=NONE)
+shift(15, [999], [], run=OTHER, chart={"steps": 65}, lent=31, index=NONE)
+shift(4, [999], [], run=OTHER, chart={"steps": 65}, index=NONE)
+shift(20, [999], [], run=OTHER, index=NONE)
+shift(12, [999], [], run=OTHER, index=A_INDEX)
+
+# "A cycle that consults only transitions leaving some active step takes the same ones". No step is active: each waits for a source
+EMPTY = altered(STILL, {"clock": 1000})
+for chart in (NONE, TWO):
+    cycle(cycled(0, 0, altered(EMPTY, {"clock": 1010}), driven=NONE, reasons=(1, 1)), chart, EMPTY, inputs=3)
+    cycle(cycled(0, 0, altered(EMPTY, {"clock": 1010, "hold": 1}), driven=NONE, reasons=(7, 7)), chart, altered(EMPTY, {"hold": 1}), inputs=3)
+# transitions "are taken in number order", not in that of the steps they leave: 0 from step 1, 1 from step 0, both to step 2. Nothing acts here.
+BARE = {"blocks": 0, "cases": 0}
+RIVALS = BARE | {"steps": 3} | moving((2, 4), (1, 4))
+building(0, {0: 2, 1: 1}, RIVALS)
+cycle(cycled(0, 1, altered(STILL, {"clock": 1010, "active": 5, ("counters", 0): 17}), driven=NONE, reasons=(0, 6)), RIVALS, BOTH)
+cycle(cycled(0, 3, altered(STILL, {"clock": 1010, "active": 4}), driven=NONE), RIVALS | TWO, BOTH)
+for edition in (NONE, TWO):
+    cycle(cycled(0, 0, altered(BOTH_KEYED, {"clock": 1010}), driven=NONE, reasons=(7, 7)), RIVALS | edition, BOTH_KEYED)
+# .. 0 from steps 1 and 2 to 3 on input 0, 1 from steps 0 and 1 to 4 on input 1: the second finds step 1 used, or is taken where input 0 is off; of
+# either one source alone is active, or none
+SHARED = BARE | {"steps": 5} | moving((6, 8), (3, 16)) | {("on", 0): 1, ("on", 1): 2}
+building(0, {0: 2, 1: 3, 2: 1}, SHARED)
+for edition in (NONE, TWO):
+    cycle(cycled(0, 1, altered(STILL, {"clock": 1010, "active": 9, ("counters", 0): 17}), driven=NONE, reasons=(0, 2)),
+          SHARED | edition, IN_ALL, inputs=3)
+    cycle(cycled(0, 2, altered(STILL, {"clock": 1010, "active": 20, ("counters", 2): 40}), driven=NONE, reasons=(3, 0)),
+          SHARED | edition, IN_ALL, inputs=2)
+    for k in range(5):
+        one = altered(STILL, {"clock": 1000, "active": 1 << k})
+        cycle(cycled(0, 0, altered(one, {"clock": 1010, ("counters", k): 10}), driven=NONE, reasons=(1, 1)), SHARED | edition, one, inputs=3)
+
+# the ring from its last step: 63 transitions are not consulted, and wait for their source
+LAST = altered(STILL, {"clock": 1000, "active": 2**63, ("counters", 63): 5})
+for edition in (NONE, TWO):
+    cycle(cycled(0, 2**63, altered(BEGUN, {"clock": 1010}), driven=NONE, reasons=(1,) * 63 + (0,)), RING | edition, LAST)
+# .. from steps 0 and 1: step 1 is occupied in edition 1; in edition 2 it is left and entered, and stores action 1. Input 1 marks its case good.
+cycle(cycled(0, 2, altered(STILL, {"clock": 1010, "active": 5, "good": 1, ("counters", 0): 17}), driven=NONE, reasons=(5, 0) + (1,) * 62),
+      RING, BOTH, inputs=2)
+cycle(cycled(0, 3, altered(IN_1, {"active": 6, "good": 1}), driven={0: 120}, reasons=(0, 0) + (1,) * 62), RING | TWO, BOTH, inputs=2)
+# .. from all steps: edition 1 takes none, edition 2 all 64; R on step 0 keeps action 1 from being stored, and input 1 is off
+ALL = altered(STILL, {"clock": 1000, "active": 2**64 - 1})
+ALL_WAIT = altered(ALL, {"clock": 1003, "activity": 1} | {("counters", k): 3 for k in range(64)})
+ALL_MOVED = altered(ALL, {"clock": 1003, "activity": 1, "bad": 1})
+cycle(cycled(0, 0, ALL_WAIT, driven={0: 120}, reasons=(5,) * 64), RING, ALL, 1003)
+cycle(cycled(0, 2**64 - 1, ALL_MOVED, driven={0: 120}), RING | TWO, ALL, 1003)
+shift(0, [1001, 1002, 1003], [0] * 3, run=ALL, chart=RING, found=[1] * 3, after=ALL_WAIT, driven={0: 120})
+shift(0, [1001, 1002, 1003], [0] * 3, run=ALL, chart=RING | TWO, found=[1] * 3, after=ALL_MOVED, driven={0: 120})
+# .. all transitions from the last step: the first is taken, and step 63 is used then; from step 0 none is consulted
+for edition in (NONE, TWO):
+    cycle(cycled(0, 1, altered(BEGUN, {"clock": 1010}), driven=NONE, reasons=(0,) + (2,) * 63), FROM_63 | edition, LAST)
+    cycle(cycled(0, 0, COUNTED, driven=NONE, reasons=(1,) * 64), FROM_63 | edition)
+# .. 63 sources each: all active, and all but the last; step 1 marks its case bad where it is left, and acts where it stays
+BUT_0 = altered(STILL, {"clock": 1000, "active": 2**64 - 2})
+BUT_63 = altered(STILL, {"clock": 1000, "active": 2**63 - 2})
+STAND = altered(BUT_63, {"clock": 1010, "activity": 3, "stored": 2} | {("counters", k): 10 for k in range(1, 63)})
+for edition in (NONE, TWO):
+    cycle(cycled(0, 1, altered(BEGUN, {"clock": 1010, "bad": 1}), driven=NONE, reasons=(0,) + (2,) * 63), JOINS | edition, BUT_0)
+    cycle(cycled(0, 0, STAND, driven={0: 120}, reasons=(1,) * 64), JOINS | edition, BUT_63)
+
+# a shift round the ring, in which each cycle consults another transition: step 1 acts and stores action 1, step 0 resets it; input 1 is off where step
+# 1 is left
+for edition in (NONE, TWO):
+    ring = RING | edition
+    shift(0, range(1001, 1065), [0] * 64, chart=ring, found=[3] + [2] * 62 + [0], after=altered(BEGUN, {"clock": 1064, "bad": 1}), driven=NONE)
+    shift(0, range(1001, 1064), [0] * 63, chart=ring, found=[3] + [2] * 62,
+          after=altered(STILL, {"clock": 1063, "active": 2**63, "activity": 2, "stored": 2, "bad": 1}), driven={0: 7})
+    shift(11, [1001, 1002, 1001, 1003], [0] * 4, chart=ring, found=[3, 2],
+          after=altered(STILL, {"clock": 1002, "active": 4, "activity": 2, "stored": 2, "bad": 1}), driven={0: 7})
+    shift(0, range(1001, 1065), [0] * 64, run=HELD_0, chart=ring, found=[0] * 64, after=altered(HELD_0, {"clock": 1064}), driven=NONE)
 
 if __name__ == "__main__":
     assert len(CASES[0][0]) == 4560 + 437 + 11

@@ -5,7 +5,8 @@
   tests/run_cycles.py --check   say whether they are what this file says
 
 The lines come from a plain model of document 01's start and cycle, with P as request (ii) of document 02 has it, the reasons of
-its request (vi), the hold key of its request (vii) and the second edition of its request (viii); nothing here runs the engine. Every
+its request (vi), the hold key of its request (vii) and the second edition of its request (viii); nothing here runs the engine. The
+driver makes every cycle by the chart's index too, whose answer must be the same (request ix), and the model knows of no index. Every
 case also states facts derived from the documents by hand, and nothing is written unless the model agrees with all of them.
 Numbers 1 to 6 in the comments are the numbered rules under "One cycle".
 """
@@ -822,6 +823,30 @@ show("a full chart, 64 steps occupied, edition 1", RING, [(9, {}), (10, {}), (20
 show("steps 0 and 63 lead into each other", second(net(64, [0, 63], ([0], [63], [0]), ([63], [0], [1]))),
      [(5, {0, 1}), (8, {0}), (9, {1}), (12, {0})],
      taken=[{}, {0, 1}, {0}, {1}, {0}], active=[{0, 63}, {0, 63}, {63}, {0}, {63}], counters=[{}, {}, {63: 3}, {}, {}])
+
+
+# Document 02, request (ix): driver.c makes every cycle by the chart's index too, and its answer must be this one. Here the order of the steps and the
+# "number order" of the transitions that leave them are opposite: for a target, for a source, and for neither
+TO_2 = net(3, [0, 1], ([1], [2]), ([0], [2]))
+show("a later step's transition comes first", TO_2, [(10, {}), (20, {})], taken=[{}, {0}, {}], active=[{0, 1}, {0, 2}, {0, 2}],
+     reasons=[{}, {1: 6}, {0: 1, 1: 5}])
+show("a later step's transition beside it in edition 2", second(TO_2), [(10, {}), (20, {})], taken=[{}, {0, 1}, {}], active=[{0, 1}, {2}, {2}],
+     reasons=[{}, {}, {0: 1, 1: 1}])
+show("a later step's transition uses a source", net(5, [0, 1, 2], ([1, 2], [3]), ([0, 1], [4])), [(10, {}), (20, {})],
+     taken=[{}, {0}, {}], active=[{0, 1, 2}, {0, 3}, {0, 3}], reasons=[{}, {1: 2}, {0: 1, 1: 1}])
+show("steps left in the opposite order", net(6, [0, 1, 2], ([2], [3]), ([1], [4]), ([0], [5])), [(10, {})],
+     taken=[{}, {0, 1, 2}], active=[{0, 1, 2}, {3, 4, 5}], reasons=[{}, {}])
+# .. a transition with one source active, or with none; a step that no transition leaves
+show("each source by itself", net(4, [1], ([0, 1], [3]), ([0, 2], [3]), ([1], [0])), [(10, {}), (20, {})],
+     taken=[{}, {2}, {}], active=[{1}, {0}, {0}], reasons=[{}, {0: 1, 1: 1}, {0: 1, 1: 1, 2: 1}])
+show("nothing leaves the active step", net(3, [2], ([0], [1]), ([1], [2])), [(10, {})], taken=[{}, {}], active=[{2}, {2}], reasons=[{}, {0: 1, 1: 1}])
+# .. 64 steps and transitions: round and on, each cycle by another one of them; all from the last step, and none from the first
+show("round 64 steps by 64 transitions", net(64, [62], *(([k], [(k + 1) % 64]) for k in range(64))), [(k, {}) for k in range(1, 67)],
+     taken=[{}] + [{(62 + k) % 64} for k in range(66)], active=[{(62 + k) % 64} for k in range(67)])
+show("64 transitions from the last step", net(64, [63], *(([63], [k % 63]) for k in range(64))), [(10, {}), (20, {})], {
+    1: dict(taken={0}, active={0}, reasons={k: 2 for k in range(1, 64)}),
+    2: dict(taken={}, active={0}, reasons={k: 1 for k in range(64)}),
+})
 
 
 def answers_of(name, data, clock, calls, expect):

@@ -1,10 +1,13 @@
 // A second engine for the chart, its cycle and its tally, written from document 01 alone, with the
 // writer of charts from request (i) of document 02, the rule for P from request (ii), the whole
 // shift in one call from request (iii), the reasons why a transition waits from request (vi), the
-// hold key from request (vii) and the second edition of the stepping rule from request (viii). No
-// other request of document 02 is followed. Words in quotation marks above a function are sentences
-// of document 01, or of request (i), (ii), (iii), (vi), (vii) or (viii) where that is said. A
-// function that only serves the command line says so instead, since none of them speaks of that.
+// hold key from request (vii), the second edition of the stepping rule from request (viii) and the
+// index of leaving transitions from request (ix). No other request of document 02 is followed.
+// Words in quotation marks above a function are sentences of document 01, or of request (i), (ii),
+// (iii), (vi), (vii), (viii) or (ix) where that is said. A function that only serves the command
+// line says so instead, since none of them speaks of that. A cycle or a shift with an index
+// consults all transitions, as one without: that the index changes no answer is what request (ix)
+// claims. The cycle that consults fewer is in the selftest alone, which compares the two.
 
 use std::collections::BTreeSet;
 use std::io::{Read, Write};
@@ -1380,6 +1383,121 @@ fn reasons_under_hold(chart: &Chart) -> Vec<u8> {
 }
 
 // ---------------------------------------------------------------------------------------------
+// An index of leaving transitions (request (ix) of document 02)
+// ---------------------------------------------------------------------------------------------
+
+// Request (ix): "building ... refused gives all zeros" (the number of refusal, and the index: 64
+// sets of transitions, set k for step k)
+struct Building {
+    code: Code,
+    index: Vec<Set>,
+}
+
+// Request (ix): "building tests the chart and refused gives all zeros"
+fn build_index(held: &Held) -> Building {
+    match test_chart(held) {
+        Ok(chart) => Building { code: 0, index: index_of(&chart) },
+        Err(code) => Building { code, index: no_index() },
+    }
+}
+
+// Request (ix): "... refused gives all zeros" (no transition for any step)
+fn no_index() -> Vec<Set> {
+    vec![Set::new(); 64]
+}
+
+// Request (ix): "Beside the chart keep, for every step, the set of transitions that have it as a
+// source"; "0 beyond the last step"
+fn index_of(chart: &Chart) -> Vec<Set> {
+    let mut index = no_index();
+    for step in 0..chart.steps.len() {
+        put(&mut index, step, leaving_transitions(chart, step));
+    }
+    index
+}
+
+// Request (ix): "the set of transitions that have it as a source" (a step)
+fn leaving_transitions(chart: &Chart, step: usize) -> Set {
+    let transitions = chart.transitions.iter().enumerate();
+    transitions.filter(|(_, t)| t.sources.contains(&step)).map(|(k, _)| k).collect()
+}
+
+// Request (ix): "20 when it is not exactly the index of this chart, 0 beyond the last step"
+fn test_index(chart: &Chart, index: &[Set]) -> Result<(), Code> {
+    if index != index_of(chart) {
+        return Err(20);
+    }
+    Ok(())
+}
+
+// "a cycle tests 15, chart, 12, 11"; request (ix): "20 ..., tested after the chart and before 12"
+fn test_cycle_with_index(
+    held: &Held,
+    index: &[Set],
+    run: &Run,
+    clock: u32,
+    outputs: &[i32],
+) -> Result<(), Code> {
+    test_outputs(outputs)?;
+    let chart = test_chart(held)?;
+    test_index(&chart, index)?;
+    test_run(&chart, run)?;
+    test_elapsed(clock, run.clock)
+}
+
+// Request (ix): "A cycle that consults only transitions leaving some active step takes the same
+// ones, in both editions, and gives the same answer throughout." (so the answer is that of a cycle
+// without an index); document 01: "a refused cycle the run it was given"
+fn cycle_with_index(
+    held: &Held,
+    index: &[Set],
+    run: &Run,
+    clock: u32,
+    inputs: u32,
+    outputs: &mut [i32],
+) -> Answer {
+    match test_cycle_with_index(held, index, run, clock, outputs) {
+        Ok(()) => cycle(held, run, clock, inputs, outputs),
+        Err(code) => refusal(code, run.clone()),
+    }
+}
+
+// Request (iii): "Refusals: 15, chart, 12, then 18 ..., all before any cycle"; request (ix): "20
+// ..., tested after the chart and before 12"
+fn test_shift_with_index(
+    held: &Held,
+    index: &[Set],
+    run: &Run,
+    lengths: [usize; 3],
+    outputs: &[i32],
+) -> Result<(), Code> {
+    test_outputs(outputs)?;
+    let chart = test_chart(held)?;
+    test_index(&chart, index)?;
+    test_run(&chart, run)?;
+    test_lengths(lengths)
+}
+
+// Request (iii): "The result equals the calls made singly."; "... all before any cycle, with 0
+// accepted and nothing written"; request (ix): "... gives the same answer throughout" (chart and
+// index stay as they are during the shift, so one test of the index serves for all its cycles)
+fn shift_with_index(
+    held: &Held,
+    index: &[Set],
+    run: &Run,
+    clocks: &[u32],
+    inputs: &[u32],
+    words: &mut [u64],
+    outputs: &mut [i32],
+) -> Shift {
+    let lengths = [clocks.len(), inputs.len(), words.len()];
+    match test_shift_with_index(held, index, run, lengths, outputs) {
+        Ok(()) => do_shift(held, run, clocks, inputs, words, outputs),
+        Err(code) => Shift { code, accepted: 0, run: run.clone() },
+    }
+}
+
+// ---------------------------------------------------------------------------------------------
 // The printed run
 // ---------------------------------------------------------------------------------------------
 
@@ -1650,9 +1768,36 @@ fn run_image(input: &mut Fields) -> Option<Run> {
     })
 }
 
+// For the command line: an index, 64 words of 8 bytes, word k for step k. "64-bit sets, bit k is
+// number k"
+fn index_image(input: &mut Fields) -> Option<Vec<Set>> {
+    Some(input.column(64, 8)?.iter().map(|word| set_of(*word)).collect())
+}
+
+// For the command line: the lists of a shift. There are as many clocks as the two lowest bytes of
+// the call's clock say, as many inputs as its two highest say and as many activity words as the two
+// lowest bytes of the call's inputs say, word k holding 4,294,967,296 + k before.
+struct Lists {
+    clocks: Vec<u32>,
+    inputs: Vec<u32>,
+    words: Vec<u64>,
+}
+
+// For the command line: the clocks and then the inputs, four bytes each, and the lent words.
+fn lists_image(input: &mut Fields, clock: u32, lent: u32) -> Option<Lists> {
+    let clocks = input.column((clock % 65_536) as usize, 4)?;
+    let inputs = input.column((clock / 65_536) as usize, 4)?;
+    Some(Lists {
+        clocks: clocks.iter().map(|clock| *clock as u32).collect(),
+        inputs: inputs.iter().map(|word| *word as u32).collect(),
+        words: (0..lent % 65_536).map(|k| 4_294_967_296 + u64::from(k)).collect(),
+    })
+}
+
 // For the command line: one case of `held`, and its line. The calls are 0 start, 1 cycle, 2 tally,
-// 3 weighing, 4 writing, 5 shift, 6 setting the hold mark and 7 clearing it; a shift's clocks and
-// inputs follow the weights.
+// 3 weighing, 4 writing, 5 shift, 6 setting the hold mark, 7 clearing it, 8 building an index, 9
+// cycle with an index and 10 shift with an index. The index follows the weights, and a shift's
+// clocks and inputs follow the index or, where there is none, the weights.
 fn held_case(input: &mut Fields) -> Option<Vec<u8>> {
     let held = chart_image(input)?;
     let run = run_image(input)?;
@@ -1676,12 +1821,25 @@ fn held_case(input: &mut Fields) -> Option<Vec<u8>> {
         }
         4 => writing_line(&held, clock),
         5 => {
-            let clocks = input.column((clock % 65_536) as usize, 4)?;
-            let list = input.column((clock / 65_536) as usize, 4)?;
-            shift_line(&held, &run, &clocks, &list, inputs, &mut outputs)
+            let Lists { clocks, inputs, mut words } = lists_image(input, clock, inputs)?;
+            let answer = shift(&held, &run, &clocks, &inputs, &mut words, &mut outputs);
+            shift_line(&answer, &outputs, &words)
         }
         6 => turned_line(&set_hold(&held, &run)),
         7 => turned_line(&clear_hold(&held, &run)),
+        8 => building_line(&build_index(&held)),
+        9 => {
+            let index = index_image(input)?;
+            let answer = cycle_with_index(&held, &index, &run, clock, inputs, &mut outputs);
+            cycle_line(&answer, &outputs)
+        }
+        10 => {
+            let index = index_image(input)?;
+            let Lists { clocks, inputs, mut words } = lists_image(input, clock, inputs)?;
+            let answer =
+                shift_with_index(&held, &index, &run, &clocks, &inputs, &mut words, &mut outputs);
+            shift_line(&answer, &outputs, &words)
+        }
         _ => b"unknown call\n".to_vec(),
     };
     Some(line)
@@ -1735,22 +1893,16 @@ fn run_values(run: &Run) -> Vec<i128> {
     values
 }
 
+// For the command line: the line of building an index: the number and the 64 words of the index.
+fn building_line(answer: &Building) -> Vec<u8> {
+    let mut values = vec![answer.code];
+    values.extend(answer.index.iter().map(word_of));
+    line_of(values.iter())
+}
+
 // For the command line: the line of a shift: the number, the number accepted, the run, the lent
-// outputs and then all the lent activity words. There are as many clocks as the two lowest bytes of
-// the call's clock say, as many inputs as its two highest say and as many activity words as the two
-// lowest bytes of the call's inputs say, word k holding 4,294,967,296 + k before.
-fn shift_line(
-    held: &Held,
-    run: &Run,
-    clocks: &[u64],
-    inputs: &[u64],
-    lent: u32,
-    outputs: &mut [i32],
-) -> Vec<u8> {
-    let clocks: Vec<u32> = clocks.iter().map(|clock| *clock as u32).collect();
-    let inputs: Vec<u32> = inputs.iter().map(|word| *word as u32).collect();
-    let mut words: Vec<u64> = (0..lent % 65_536).map(|k| 4_294_967_296 + u64::from(k)).collect();
-    let answer = shift(held, run, &clocks, &inputs, &mut words, outputs);
+// outputs and then all the lent activity words.
+fn shift_line(answer: &Shift, outputs: &[i32], words: &[u64]) -> Vec<u8> {
     let mut values = vec![i128::from(answer.code), i128::from(answer.accepted)];
     values.extend(run_values(&answer.run));
     values.extend(outputs.iter().map(|value| i128::from(*value)));
@@ -1955,6 +2107,32 @@ impl Bench {
         self.check(name, taken_agree(held, &answer));
     }
 
+    // The index of a chart: these words, one for each step, and 0 for every number behind them; a
+    // cycle and a shift with it are accepted and leave what they leave without it.
+    fn indexes(&mut self, name: &str, held: &Held, words: &[u64]) {
+        let built = build_index(held);
+        self.check(name, built.code == 0 && built.index == index_by_hand(words));
+        self.check(name, words.len() == held.counts.steps as usize);
+        self.check(name, built.index == index_by(held, |t| &t.sources));
+        self.check(name, codes_with(held, &built.index, &began(held)) == (0, 0));
+    }
+
+    // What a cycle leaves without an index; it leaves the same with one, and the same again if it
+    // consults only the transitions leaving some active step.
+    fn agree(
+        &mut self,
+        name: &str,
+        held: &Held,
+        index: &[Set],
+        run: &Run,
+        go: (u32, u32),
+    ) -> Cycled {
+        let plain = cycled(held, run, go, 34);
+        self.check(name, cycled_with(held, index, run, go, 34) == plain);
+        self.check(name, cycled_leaving(held, index, run, go, 34) == plain);
+        plain
+    }
+
     // A bench-run with chart A and what it prints.
     fn prints(&mut self, name: &str, trace: &[Vec<u8>], printed: &str) {
         let output = bench_run(Some(&chart_a()), &trace.concat());
@@ -2052,6 +2230,25 @@ fn selftest() {
     check_edition_weighed(&mut bench);
     check_edition_printed(&mut bench);
     check_edition_lines(&mut bench);
+    check_index_built(&mut bench);
+    check_index_limits(&mut bench);
+    check_index_refused(&mut bench);
+    check_index_junk(&mut bench);
+    check_index_bits(&mut bench);
+    check_index_other(&mut bench);
+    check_index_altered(&mut bench);
+    check_index_altered_by_lot(&mut bench);
+    check_index_order(&mut bench);
+    check_index_pairs(&mut bench);
+    check_index_by_hand(&mut bench);
+    check_index_leaving(&mut bench);
+    check_index_all_sets(&mut bench);
+    check_index_by_lot(&mut bench);
+    check_index_wide(&mut bench);
+    check_index_shift(&mut bench);
+    check_index_teeth(&mut bench);
+    check_index_lines(&mut bench);
+    check_index_call_lines(&mut bench);
     check_printed(&mut bench);
     check_printed_second(&mut bench);
     check_printed_no_second(&mut bench);
@@ -4528,7 +4725,7 @@ fn check_hold_lines(b: &mut Bench) {
     let calls = [weights(6), key(7), call_bytes(6, 0, 0, 255, 0), weights(7), key(6)];
     let lines = [&set, &cleared, &set, &cleared, &set].map(|line| line.as_str()).concat();
     b.check("6 and 7, one after the other", held_lines(&calls) == (lines, true));
-    b.check("no call 8", held_lines(&[key(8)]) == ("unknown call\n".into(), true));
+    b.check("no call 11", held_lines(&[key(11)]) == ("unknown call\n".into(), true));
     let image = image_of(200);
     let mut fields = Fields::new(image.get(first..).unwrap_or(&[]));
     let mark = run_image(&mut fields).map(|run| run.hold_mark);
@@ -4729,9 +4926,9 @@ fn check_edition_next(b: &mut Bench) {
     }
 }
 
-// All the calls on a held chart: start, cycle, tally, weighing, writing, shift of none, setting and
-// clearing the mark, with what each returns and leaves if it is refused: their numbers, or 99 where
-// a refused one returns or leaves something else.
+// All the calls on a held chart that have to do with no index: start, cycle, tally, weighing,
+// writing, shift of none, setting and clearing the mark, with what each returns and leaves if it is
+// refused: their numbers, or 99 where a refused one returns or leaves something else.
 fn codes_of_calls(held: &Held, run: &Run, weights: usize) -> Vec<Code> {
     let mut outputs = vec![8; 33];
     let began = start(held, 7, &mut outputs);
@@ -5788,6 +5985,1315 @@ fn check_edition_lines(b: &mut Bench) {
     }
     let zero = [vec![0; 4560], vec![0; 437], call_bytes(2, 0, 0, 0, 0)].concat();
     b.check("an all-zero image", held_case(&mut Fields::new(&zero)) == Some(b"5 0 0 0\n".to_vec()));
+}
+
+// ---------------------------------------------------------------------------------------------
+// The selftest: the index of leaving transitions
+// ---------------------------------------------------------------------------------------------
+
+// Request (ix): "A cycle that consults only transitions leaving some active step" (which these are;
+// a set, so they are consulted in number order)
+fn leaving_some(index: &[Set], active: &Set) -> Set {
+    let mut consulted = Set::new();
+    for transitions in active.iter().filter_map(|step| index.get(*step)) {
+        consulted.extend(transitions);
+    }
+    consulted
+}
+
+// "Transitions are taken in number order. One is taken if all its sources were active at the
+// cycle's beginning and are not a source of one already taken; ..." (of those consulted; no other
+// transition is looked at)
+fn take_consulted(chart: &Chart, consulted: &Set, run: &Run, signals: &Set) -> Set {
+    let (mut taken, mut used, mut claimed) = (Set::new(), Set::new(), Set::new());
+    for k in consulted {
+        if let Some(t) = chart.transitions.get(*k) {
+            let ready = t.sources.is_subset(&run.active) && t.sources.is_disjoint(&used);
+            let true_now = t.on.is_subset(signals) && t.off.is_disjoint(signals);
+            let waited = t.sources.iter().all(|s| at(&run.step_counters, *s) >= t.wait);
+            let free = t.targets.is_disjoint(&run.active) && t.targets.is_disjoint(&claimed);
+            if ready && true_now && waited && (free || chart.edition == 2) {
+                taken.insert(*k);
+                used.extend(&t.sources);
+                claimed.extend(&t.targets);
+            }
+        }
+    }
+    taken
+}
+
+// Request (vi): "The test answers for each transition" (of those consulted; of any other no source
+// is active, so it has "a source not active", which is 1)
+fn reasons_consulted(chart: &Chart, consulted: &Set, run: &Run, signals: &Set) -> Vec<u8> {
+    let mut reasons = vec![1; chart.transitions.len()];
+    reasons.resize(64, 0);
+    let (mut used, mut claimed) = (Set::new(), Set::new());
+    for k in consulted {
+        if let Some(t) = chart.transitions.get(*k) {
+            let mut reason = reason_of_sources(t, run, signals, &used);
+            if reason == 0 && chart.edition != 2 {
+                reason = reason_of_targets(t, run, &claimed);
+            }
+            if reason == 0 {
+                used.extend(&t.sources);
+                claimed.extend(&t.targets);
+            }
+            put(&mut reasons, *k, reason);
+        }
+    }
+    reasons
+}
+
+// Request (ix): "A cycle that consults only transitions leaving some active step" (without tests
+// and without hold; but for what it consults it does what `do_cycle` does)
+fn do_cycle_leaving(
+    chart: &Chart,
+    index: &[Set],
+    given: &Run,
+    (clock, inputs): (u32, u32),
+    outputs: &mut [i32],
+) -> Answer {
+    let mut run = given.clone();
+    let signals = signals_of(inputs, &given.activity);
+    grow(&mut run.step_counters, &given.active, elapsed(clock, given.clock));
+    grow(&mut run.action_timers, &given.latched, elapsed(clock, given.clock));
+    let consulted = leaving_some(index, &given.active);
+    let taken = take_consulted(chart, &consulted, &run, &signals);
+    let reasons = reasons_consulted(chart, &consulted, &run, &signals);
+    let left = sources_of(chart, &taken);
+    let targets = targets_of(chart, &taken);
+    let entered = entered_steps(chart, &given.active, &left, &targets);
+    move_steps(&mut run, &left, &targets, &entered);
+    mark_cases(chart, &mut run, &left, &signals);
+    do_actions(chart, &mut run, &entered, &left);
+    write_outputs(chart, &run.activity, outputs);
+    run.clock = clock;
+    Answer { code: 0, taken, reasons, run }
+}
+
+// The same with its tests and, under hold, as there: no transition is consulted at all.
+fn cycle_leaving(
+    held: &Held,
+    index: &[Set],
+    run: &Run,
+    go: (u32, u32),
+    outputs: &mut [i32],
+) -> Answer {
+    if let Err(code) = test_cycle_with_index(held, index, run, go.0, outputs) {
+        return refusal(code, run.clone());
+    }
+    let chart = within_counts(held);
+    if run.hold_mark == 1 {
+        return do_cycle_under_hold(&chart, run, go.0, outputs);
+    }
+    do_cycle_leaving(&chart, index, run, go, outputs)
+}
+
+// What a cycle leaves: number, transitions taken, reasons, run and outputs.
+type Cycled = (Code, u64, Vec<u8>, Run, Vec<i32>);
+
+// An answer and the outputs beside it, in one.
+fn all_of(answer: Answer, outputs: Vec<i32>) -> Cycled {
+    (answer.code, word_of(&answer.taken), answer.reasons, answer.run, outputs)
+}
+
+// A cycle without an index, with so many outputs, 5 before; a cycle is its clock and its inputs.
+fn cycled(held: &Held, run: &Run, go: (u32, u32), lent: usize) -> Cycled {
+    let mut outputs = vec![5; lent];
+    let answer = cycle(held, run, go.0, go.1, &mut outputs);
+    all_of(answer, outputs)
+}
+
+// The same with an index.
+fn cycled_with(held: &Held, index: &[Set], run: &Run, go: (u32, u32), lent: usize) -> Cycled {
+    let mut outputs = vec![5; lent];
+    let answer = cycle_with_index(held, index, run, go.0, go.1, &mut outputs);
+    all_of(answer, outputs)
+}
+
+// The same, consulting only the transitions leaving some active step.
+fn cycled_leaving(held: &Held, index: &[Set], run: &Run, go: (u32, u32), lent: usize) -> Cycled {
+    let mut outputs = vec![5; lent];
+    let answer = cycle_leaving(held, index, run, go, &mut outputs);
+    all_of(answer, outputs)
+}
+
+// "a refused cycle the run it was given ... with no transition taken"; "Lent outputs stay untouched
+// by a refusal"; request (vi): "Reasons ... of a refused call ... are 0."
+fn refused_cycle(code: Code, run: &Run, lent: usize) -> Cycled {
+    (code, 0, vec![0; 64], run.clone(), vec![5; lent])
+}
+
+// A shift with an index, with as many activity words as cycles and 34 outputs, 5 before.
+fn shifted_with(held: &Held, index: &[Set], run: &Run, cycles: &[(u32, u32)]) -> Shifted {
+    let (clocks, inputs) = lists_of(cycles);
+    let mut words = lent_words(cycles.len());
+    let mut outputs = vec![5; 34];
+    let answer =
+        shift_with_index(held, index, run, &clocks, &inputs, &mut words, &mut outputs);
+    (answer.code, answer.accepted, answer.run, words, outputs)
+}
+
+// Request (iii): "The result equals the calls made singly." (each consulting only the transitions
+// leaving some active step)
+fn shifted_leaving(held: &Held, index: &[Set], run: &Run, cycles: &[(u32, u32)]) -> Shifted {
+    let mut words = lent_words(cycles.len());
+    let mut outputs = vec![5; 34];
+    let mut now = run.clone();
+    for (k, go) in cycles.iter().enumerate() {
+        let answer = cycle_leaving(held, index, &now, *go, &mut outputs);
+        if answer.code != 0 {
+            return (answer.code, k as u64, now, words, outputs);
+        }
+        now = answer.run;
+        put(&mut words, k, word_of(&now.activity));
+    }
+    (0, cycles.len() as u64, now, words, outputs)
+}
+
+// An index by hand: these words for the first steps, and 0 for every step behind them.
+fn index_by_hand(words: &[u64]) -> Vec<Set> {
+    let mut index: Vec<Set> = words.iter().map(|word| set_of(*word)).collect();
+    index.resize(64, Set::new());
+    index
+}
+
+// An index by another way: transition after transition, its bit into the word of each of its steps.
+fn index_by(held: &Held, steps_of: fn(&Transition) -> &Set) -> Vec<Set> {
+    let mut words = vec![0u64; 64];
+    let counted = held.tables.transitions.iter().take(held.counts.transitions as usize);
+    for (k, transition) in counted.enumerate() {
+        for step in steps_of(transition) {
+            let word = at(&words, *step) | 1 << k;
+            put(&mut words, *step, word);
+        }
+    }
+    index_by_hand(&words)
+}
+
+// An index with one bit turned over: of this transition in the word of this step.
+fn turned_bit(index: &[Set], step: usize, transition: usize) -> Vec<Set> {
+    let mut index = index.to_vec();
+    if let Some(transitions) = index.get_mut(step) {
+        if !transitions.remove(&transition) {
+            transitions.insert(transition);
+        }
+    }
+    index
+}
+
+// A held chart with its transition k altered.
+fn altered(held: &Held, k: usize, by: &dyn Fn(&mut Transition)) -> Held {
+    let mut held = held.clone();
+    if let Some(transition) = held.tables.transitions.get_mut(k) {
+        by(transition);
+    }
+    held
+}
+
+// A held chart altered in any way.
+fn altered_all(held: &Held, by: &dyn Fn(&mut Held)) -> Held {
+    let mut held = held.clone();
+    by(&mut held);
+    held
+}
+
+// The numbers that a cycle and a shift of one cycle give with an index, at the run's clock with
+// inputs 0 and 1; accepted, both must leave what they leave without one, and refused, what a
+// refused one leaves; otherwise 99.
+fn codes_with(held: &Held, index: &[Set], run: &Run) -> (Code, Code) {
+    let go = (run.clock, 3);
+    let one = cycled_with(held, index, run, go, 34);
+    let two = shifted_with(held, index, run, &[go]);
+    let wanted = match one.0 {
+        0 => cycled(held, run, go, 34),
+        code => refused_cycle(code, run, 34),
+    };
+    let one_code = if one == wanted { one.0 } else { 99 };
+    let wanted = match two.0 {
+        0 => shifted(held, run, &[go]),
+        code => (code, 0, run.clone(), lent_words(1), vec![5; 34]),
+    };
+    (one_code, if two == wanted { two.0 } else { 99 })
+}
+
+// The number of a shift with an index in which no cycle may be accepted, as in `shift_code`.
+fn shift_code_with(
+    (held, index): (&Held, &[Set]),
+    run: &Run,
+    lengths: [usize; 3],
+    lent: usize,
+    clock: u32,
+) -> Code {
+    let [clocks, inputs, count] = lengths;
+    let mut words = lent_words(count);
+    let mut outputs = vec![8; lent];
+    let (clocks, inputs) = (vec![clock; clocks], vec![1; inputs]);
+    let answer =
+        shift_with_index(held, index, run, &clocks, &inputs, &mut words, &mut outputs);
+    let kept = answer.run == *run && words == lent_words(count) && outputs == vec![8; lent];
+    if answer.accepted != 0 || !kept {
+        return 99;
+    }
+    answer.code
+}
+
+// A run that belongs to a chart: its start at 1000.
+fn began(held: &Held) -> Run {
+    played(held, 1000, &[]).0.run
+}
+
+// Request (ix): "for every step, the set of transitions that have it as a source" (by hand)
+fn check_index_built(b: &mut Bench) {
+    let go = |sources, targets| transition(sources, targets, 0, 0, 0);
+    b.indexes("chart A", &held_a(), &[1, 2]);
+    b.indexes("chart A in edition 2", &in_edition(&held_a(), 2), &[1, 2]);
+    b.indexes("one step", &held_of(&[step(1)]), &[0]);
+    b.indexes("no transitions", &held_steps(&[1, 0, 1], &[]), &[0, 0, 0]);
+    b.indexes("a fork", &held_steps(&[1, 0, 0], &[go(1, 6)]), &[1, 0, 0]);
+    b.indexes("a join", &held_steps(&[1, 1, 0], &[go(3, 4)]), &[1, 1, 0]);
+    b.indexes("fork and join", &held_steps(&[1, 0, 0], &[go(1, 6), go(6, 1)]), &[1, 2, 2]);
+    let moves = [go(1, 2), go(1, 4), go(1, 6)];
+    b.indexes("three from one step", &held_steps(&[1, 0, 0], &moves), &[7, 0, 0]);
+    let moves = [go(1, 2), go(2, 1), go(1, 4)];
+    b.indexes("another between two", &held_steps(&[1, 0, 0], &moves), &[5, 2, 0]);
+    let moves = [go(2, 1), go(2, 1), go(2, 1)];
+    b.indexes("one transition three times", &held_steps(&[1, 0], &moves), &[0, 7]);
+    let moves = [go(3, 8), go(6, 8), go(5, 8)];
+    b.indexes("joins that share sources", &held_steps(&[1, 0, 0, 0], &moves), &[5, 3, 6, 0]);
+    let moves = [go(1, 8), go(2, 8), go(4, 8), go(7, 8)];
+    b.indexes("all into one", &held_steps(&[1, 1, 1, 0], &moves), &[9, 10, 12, 0]);
+    let moves = [go(3, 12), go(12, 3), go(1, 8), go(8, 1)];
+    b.indexes("two forks that are joins", &held_steps(&[1, 1, 0, 0], &moves), &[5, 1, 2, 10]);
+    b.indexes("a step of no transition", &held_steps(&[1, 0, 0], &[go(1, 4)]), &[1, 0, 0]);
+    let mut moves = [go(1, 2), go(2, 4), go(4, 1)];
+    b.indexes("a ring", &held_steps(&[1, 0, 0], &moves), &[1, 2, 4]);
+    moves.rotate_right(1);
+    b.indexes("a ring, the last first", &held_steps(&[1, 0, 0], &moves), &[2, 4, 1]);
+    b.indexes("all qualifiers", &held_of_all(), &[1, 2, 4, 12]);
+    // Neither signals nor waits nor initial steps play a part.
+    let moves = [transition(1, 6, 5, 2, 86_400_000), transition(6, 1, 0, u64::from(u32::MAX), 7)];
+    b.indexes("guards and waits", &held_steps(&[0, 0, 1], &moves), &[1, 2, 2]);
+    b.indexes("guards, edition 2", &second_steps(&[0, 0, 1], &moves), &[1, 2, 2]);
+}
+
+// "A chart has 1 to 64 steps, ... 0 to 64 transitions" (the index at these limits)
+fn check_index_limits(b: &mut Bench) {
+    let go = |sources, targets| transition(sources, targets, 0, 0, 0);
+    let all = [1; 64];
+    let last = |rest: u64, word: u64| [vec![rest; 63], vec![word]].concat();
+    let first = |word: u64| [vec![word], vec![0; 63]].concat();
+    b.indexes("64 steps, no transitions", &held_steps(&all, &[]), &[0; 64]);
+    let moves: Vec<Vec<u8>> = (0..64).map(|k: u32| go(1 << k, 1 << ((k + 1) % 64))).collect();
+    let words: Vec<u64> = (0..64).map(|k: u32| 1 << k).collect();
+    b.indexes("a ring of 64", &held_steps(&all, &moves), &words);
+    b.indexes("a ring of 64, edition 2", &second_steps(&all, &moves), &words);
+    let moves = vec![go(1, 2); 64];
+    b.indexes("64 from the first step", &held_steps(&all, &moves), &first(u64::MAX));
+    b.indexes("64 from one of two", &held_steps(&[1, 0], &moves), &[u64::MAX, 0]);
+    let moves = vec![go(1 << 63, 1); 64];
+    b.indexes("64 from the last step", &held_steps(&all, &moves), &last(0, u64::MAX));
+    let join = go(u64::MAX >> 1, 1 << 63);
+    b.indexes("a join of 63", &held_steps(&all, &[join.clone()]), &last(1, 0));
+    b.indexes("64 joins of 63", &held_steps(&all, &vec![join; 64]), &last(u64::MAX, 0));
+    b.indexes("a fork to 63", &held_steps(&all, &[go(1, u64::MAX - 1)]), &first(1));
+    let moves: Vec<Vec<u8>> = (0..64).map(|k: u32| go(!(1 << k), 1 << k)).collect();
+    let words: Vec<u64> = (0..64).map(|k: u32| !(1 << k)).collect();
+    b.indexes("all but one into it", &held_steps(&all, &moves), &words);
+    let moves = [vec![go(1, 2); 63], vec![go(1 << 63, 1)]].concat();
+    let words = [vec![u64::MAX >> 1], vec![0; 62], vec![1 << 63]].concat();
+    b.indexes("the last from the last", &held_steps(&all, &moves), &words);
+    // Every limit at once: each transition from all steps but the last, on the last signal.
+    let join = transition(u64::MAX >> 1, 1 << 63, 1 << 63, 1, 86_400_000);
+    let most = [
+        step(1).repeat(64),
+        action(31, -1).repeat(32),
+        join.repeat(64),
+        block(63, 31, 10, 0).repeat(256),
+        case(63, 63, 1).repeat(64),
+    ];
+    b.indexes("fullest chart", &held_of(&most), &last(u64::MAX, 0));
+    b.indexes("fullest, edition 2", &in_edition(&held_of(&most), 2), &last(u64::MAX, 0));
+    // Transition k from step 63 - k: bit k stands in word 63 - k.
+    let moves: Vec<Vec<u8>> =
+        (0..64).map(|k: u32| go(1 << (63 - k), 1 << ((64 - k) % 64))).collect();
+    let words: Vec<u64> = (0..64).map(|k: u32| 1 << (63 - k)).collect();
+    b.indexes("backwards", &held_steps(&all, &moves), &words);
+}
+
+// Charts made of chart A by an alteration, each with its number of refusal.
+fn refused_charts() -> Vec<(Code, Held)> {
+    let a = held_a();
+    let longest = 86_400_000;
+    let steps = |first: u8, second: u8| vec![Step { initial: first }, Step { initial: second }];
+    let action = || Action { output: 32, value: 0 };
+    let blocks = |qualifier, duration| vec![Block { step: 0, action: 0, qualifier, duration }; 3];
+    let case = || Case { step: 2, signal: 0, expected: 0 };
+    vec![
+        (4, altered_all(&a, &|held| held.counts.steps = 65)),
+        (4, altered_all(&a, &|held| held.counts.actions = 33)),
+        (4, altered_all(&a, &|held| held.counts.transitions = 65)),
+        (4, altered_all(&a, &|held| held.counts.blocks = 257)),
+        (4, altered_all(&a, &|held| held.counts.cases = u64::MAX)),
+        (5, altered_all(&a, &|held| held.tables.steps = steps(1, 2))),
+        (5, altered_all(&a, &|held| held.counts.steps = 1)),
+        (5, altered_all(&a, &|held| held.counts.steps = 0)),
+        (5, altered_all(&a, &|held| held.tables.actions = vec![action(); 2])),
+        (5, altered(&a, 0, &|t| t.sources = set_of(4))),
+        (5, altered(&a, 1, &|t| t.targets = set_of(1 << 63))),
+        (5, altered(&a, 0, &|t| t.on = set_of(1 << 34))),
+        (5, altered(&a, 1, &|t| t.off = set_of(1 << 34))),
+        (5, altered(&a, 1, &|t| t.wait = longest + 1)),
+        (5, altered_all(&a, &|held| held.tables.blocks = blocks(11, 0))),
+        (5, altered_all(&a, &|held| held.tables.blocks = blocks(0, 1))),
+        (5, altered_all(&a, &|held| held.tables.cases = vec![case()])),
+        (5, in_edition(&a, 0)),
+        (5, in_edition(&a, 3)),
+        (5, hold(&Chart::default())),
+        (6, altered(&a, 0, &|t| t.sources = Set::new())),
+        (6, altered(&a, 1, &|t| t.targets = Set::new())),
+        (6, altered(&a, 1, &|t| t.sources = numbers(2))),
+        (7, altered(&a, 0, &|t| t.off = numbers(1))),
+        (9, altered_all(&a, &|held| held.tables.steps = steps(0, 0))),
+        (9, held_without_steps()),
+        (8, altered_all(&a, &|held| held.tables.blocks = blocks(3, 9))),
+    ]
+}
+
+// Request (ix): "building tests the chart and refused gives all zeros"; document 01: "4, then
+// records by kind with 5, 6, 7, then 9, 8"; request (viii): "5 for another edition byte, tested in
+// a held chart after the cases"
+fn check_index_refused(b: &mut Bench) {
+    let zeros = index_by_hand(&[]);
+    b.check("64 words", zeros.len() == 64 && build_index(&held_a()).index.len() == 64);
+    let mut codes = BTreeSet::new();
+    for (code, held) in refused_charts().iter() {
+        let built = build_index(held);
+        b.check("building, refused", built.code == *code);
+        b.check("building, all zeros", built.index == zeros);
+        codes.insert(*code);
+    }
+    b.check("every number of a chart", codes == [4, 5, 6, 7, 8, 9].into_iter().collect());
+    let mut held = held_of_all();
+    let code = |held: &Held| {
+        let built = build_index(held);
+        if built.index == zeros { built.code } else { 99 }
+    };
+    b.check("building, not all zeros", code(&held_of_all()) == 99);
+    for byte in 0..=255 {
+        let wanted = if byte == 1 || byte == 2 { 99 } else { 5 };
+        b.check("building, any edition", code(&in_edition(&held, byte)) == wanted);
+    }
+    held.tables.blocks = vec![Block { step: 0, action: 0, qualifier: 3, duration: 9 }; 14];
+    b.check("building, 8", code(&held) == 8);
+    held.tables.steps = vec![Step { initial: 0 }; 4];
+    b.check("building, 9 before 8", code(&held) == 9);
+    held.tables.edition = 0;
+    b.check("building, the edition before 9", code(&held) == 5);
+    held = altered(&held, 3, &|t| t.off.extend(&t.on));
+    b.check("building, 7 before it", code(&held) == 7);
+    held = altered(&held, 2, &|t| t.sources = Set::new());
+    b.check("building, 6 of an earlier one", code(&held) == 6);
+    held = altered(&held, 1, &|t| t.wait = u32::MAX);
+    b.check("building, 5 of an earlier one", code(&held) == 5);
+    held.counts.cases = 65;
+    b.check("building, 4 first", code(&held) == 4);
+}
+
+// A held chart with full tables, junk behind every count; the junk transitions have these sources.
+fn with_full_tables(held: &Held, sources: &Set) -> Held {
+    let mut held = held.clone();
+    let (sources, targets) = (sources.clone(), sources.clone());
+    let transition = Transition { sources, targets, on: numbers(1), off: numbers(1), wait: 5 };
+    held.tables.steps.resize(64, Step { initial: 9 });
+    held.tables.actions.resize(32, Action { output: 99, value: 3 });
+    held.tables.transitions.resize(64, transition);
+    held.tables.blocks.resize(256, Block { step: 0, action: 0, qualifier: 3, duration: 1 });
+    held.tables.cases.resize(64, Case { step: 99, signal: 99, expected: 2 });
+    held
+}
+
+// "Entries beyond a count play no part." (the index of a chart with junk in its tables)
+fn check_index_junk(b: &mut Bench) {
+    let run = run_a();
+    let a = index_by_hand(&[1, 2]);
+    b.indexes("junk beyond the counts", &held_a_with_junk(), &[1, 2]);
+    b.check("junk, A's index", codes_with(&held_a_with_junk(), &a, &run) == (0, 0));
+    // Junk transition 2 has every step as a source.
+    let with_junk = index_by_hand(&[5, 6]);
+    b.check("junk, with its bits", codes_with(&held_a_with_junk(), &with_junk, &run) == (20, 20));
+    let all = index_by_hand(&[vec![5, 6], vec![4; 62]].concat());
+    b.check("junk, bits everywhere", codes_with(&held_a_with_junk(), &all, &run) == (20, 20));
+    let fewer = |count: u64| altered_all(&held_a(), &|held| held.counts.transitions = count);
+    b.indexes("one transition counted", &fewer(1), &[1, 0]);
+    b.indexes("no transition counted", &fewer(0), &[0, 0]);
+    b.check("one counted, A's index", codes_with(&fewer(1), &a, &run) == (20, 20));
+    b.check("none counted, A's index", codes_with(&fewer(0), &a, &run) == (20, 20));
+    b.check("one counted", codes_with(&fewer(1), &index_by_hand(&[1]), &run) == (0, 0));
+    b.check("none counted", codes_with(&fewer(0), &index_by_hand(&[]), &run) == (0, 0));
+    // Charts by lot with full tables behind their counts.
+    let mut lot = 29;
+    for k in 0..40 {
+        let held = held_by_lot(&mut lot);
+        let junk = with_full_tables(&held, &set_of(next_lot(&mut lot) * 4_294_967_297));
+        let index = build_index(&held).index;
+        let built = build_index(&junk);
+        b.check("junk by lot, built", built.code == 0 && built.index == index);
+        let run = began(&held);
+        b.check("junk by lot", codes_with(&junk, &index, &run) == (0, 0));
+        let go = (1005, k % 8);
+        let same = cycled_with(&junk, &index, &run, go, 34) == cycled(&held, &run, go, 34);
+        b.check("junk by lot, the same cycle", same);
+    }
+}
+
+// Request (ix): "20 when it is not exactly the index of this chart, 0 beyond the last step" (one
+// bit more or less, anywhere)
+fn check_index_bits(b: &mut Bench) {
+    let run = run_a();
+    let a = index_by_hand(&[1, 2]);
+    b.check("A's index", codes_with(&held_a(), &a, &run) == (0, 0));
+    b.check("built is by hand", build_index(&held_a()).index == a);
+    for step in 0..64 {
+        for transition in 0..64 {
+            let name = match (step < 2, transition < 2) {
+                (true, true) => "a bit of a step and a transition",
+                (true, false) => "a bit of a step and of no transition",
+                (false, true) => "a bit of no step and of a transition",
+                (false, false) => "a bit of no step and no transition",
+            };
+            let index = turned_bit(&a, step, transition);
+            b.check(name, codes_with(&held_a(), &index, &run) == (20, 20));
+        }
+    }
+    // A chart of one step has no transition: all words are 0.
+    let one = held_of(&[step(1)]);
+    let zeros = index_by_hand(&[]);
+    b.check("no transitions, zeros", codes_with(&one, &zeros, &began(&one)) == (0, 0));
+    for k in 0..64 {
+        for (step, transition) in [(0, k), (k, 0), (1, k), (k, 63), (63, k)].iter() {
+            let index = turned_bit(&zeros, *step, *transition);
+            b.check("no transitions, one bit", codes_with(&one, &index, &began(&one)) == (20, 20));
+        }
+    }
+    // A ring of 64 steps: word k has bit k alone.
+    let go = |k: u32| transition(1 << k, 1 << ((k + 1) % 64), 1, 0, 0);
+    let moves: Vec<Vec<u8>> = (0..64).map(go).collect();
+    for ring in [held_steps(&[1; 64], &moves), second_steps(&[1; 64], &moves)].iter() {
+        let words: Vec<u64> = (0..64).map(|k: u32| 1 << k).collect();
+        let index = index_by_hand(&words);
+        let run = began(ring);
+        b.check("a ring of 64", codes_with(ring, &index, &run) == (0, 0));
+        for k in 0..64 {
+            for transition in [k, (5 * k + 3) % 64].iter() {
+                let other = turned_bit(&index, k, *transition);
+                let code = cycled_with(ring, &other, &run, (1000, 0), 34);
+                b.check("a ring of 64, one bit", code == refused_cycle(20, &run, 34));
+            }
+        }
+    }
+}
+
+// Request (ix): "20 when it is not exactly the index of this chart" (other words altogether)
+fn check_index_other(b: &mut Bench) {
+    let zeros = index_by_hand(&[]);
+    let ones = index_by_hand(&[u64::MAX; 64]);
+    let moves = [transition(1, 2, 1, 0, 0), transition(1, 4, 2, 0, 0), transition(6, 1, 0, 0, 0)];
+    let other = held_steps(&[1, 0, 0], &moves);
+    b.indexes("another chart", &other, &[3, 4, 4]);
+    let full: Vec<Vec<u8>> = (0..64).map(|k: u32| transition(!(1 << k), 1 << k, 0, 0, 0)).collect();
+    let charts = [
+        held_a(),
+        in_edition(&held_a(), 2),
+        held_a_with_junk(),
+        other.clone(),
+        in_edition(&other, 2),
+        held_of_all(),
+        held_one(6, 100),
+        held_steps(&[1; 64], &full),
+    ];
+    for (k, held) in charts.iter().enumerate() {
+        let run = began(held);
+        let right = build_index(held).index;
+        b.check("its index", codes_with(held, &right, &run) == (0, 0));
+        b.check("its index by another way", index_by(held, |t| &t.sources) == right);
+        b.check("all zeros", codes_with(held, &zeros, &run) == (20, 20));
+        b.check("all ones", codes_with(held, &ones, &run) == (20, 20));
+        let targets = index_by(held, |t| &t.targets);
+        b.check("its targets", codes_with(held, &targets, &run) == (20, 20));
+        let steps = held.counts.steps as usize;
+        let transitions = numbers(held.counts.transitions as usize);
+        let mut every = vec![transitions.clone(); steps];
+        every.resize(64, Set::new());
+        b.check("every transition for each step", codes_with(held, &every, &run) == (20, 20));
+        let beyond = vec![transitions; 64];
+        b.check("and for every number", codes_with(held, &beyond, &run) == (20, 20));
+        let mut next = right.clone();
+        next.rotate_right(1);
+        b.check("each word one step on", codes_with(held, &next, &run) == (20, 20));
+        next.rotate_left(2);
+        b.check("each word one step back", codes_with(held, &next, &run) == (20, 20));
+        let up: Vec<Set> = right.iter().map(|x| set_of(word_of(x) << 1)).collect();
+        b.check("each bit one up", codes_with(held, &up, &run) == (20, 20));
+        let not: Vec<Set> = right.iter().map(|x| set_of(!word_of(x))).collect();
+        b.check("each bit turned over", codes_with(held, &not, &run) == (20, 20));
+        // The first three, and the fourth and fifth, have the same sources, and no other two do.
+        let group = |k: usize| match k {
+            0..=2 => 0,
+            3 | 4 => 3,
+            k => k,
+        };
+        for (other, chart) in charts.iter().enumerate() {
+            let wanted = if group(k) == group(other) { (0, 0) } else { (20, 20) };
+            let index = build_index(chart).index;
+            b.check("the index of another chart", codes_with(held, &index, &run) == wanted);
+        }
+    }
+    // Without transitions, all zeros is the index.
+    for held in [held_of(&[step(1)]), held_steps(&[1; 64], &[]), held_steps(&[0, 1], &[])].iter() {
+        let run = began(held);
+        b.check("no transitions, all zeros", codes_with(held, &zeros, &run) == (0, 0));
+        b.check("no transitions, all ones", codes_with(held, &ones, &run) == (20, 20));
+        let a = index_by_hand(&[1, 2]);
+        b.check("no transitions, chart A's", codes_with(held, &a, &run) == (20, 20));
+    }
+    // Chart A's two words exchanged, and its two bits in one word.
+    for words in [[2, 1], [3, 0], [0, 3], [3, 3], [1, 1], [2, 2], [1, 0], [0, 2]].iter() {
+        let index = index_by_hand(words);
+        b.check("A's bits elsewhere", codes_with(&held_a(), &index, &run_a()) == (20, 20));
+    }
+}
+
+// Request (ix): "20 when it is not exactly the index of this chart" (of a chart altered after its
+// index was built; what no source names plays no part)
+fn check_index_altered(b: &mut Bench) {
+    let held = held_of_all();
+    let built = index_by_hand(&[1, 2, 4, 12]);
+    let run = began(&held);
+    let moves = |k: usize| held.tables.transitions.get(k).cloned().into_iter();
+    let in_order = |order: &[usize]| {
+        altered_all(&held, &|held| {
+            held.tables.transitions = order.iter().flat_map(|k| moves(*k)).collect();
+            held.counts.transitions = order.len() as u64;
+        })
+    };
+    // A fifth transition, from 0 to 2.
+    let added = altered_all(&held, &|held| {
+        let (sources, targets) = (numbers(1), set_of(4));
+        let (on, off) = (Set::new(), Set::new());
+        held.tables.transitions.push(Transition { sources, targets, on, off, wait: 0 });
+        held.counts.transitions = 5;
+    });
+    let changed = [
+        (altered(&held, 1, &|t| t.sources = set_of(6)), [1, 2, 6, 12]),
+        (altered(&held, 1, &|t| t.sources = set_of(4)), [1, 0, 6, 12]),
+        (altered(&held, 2, &|t| t.sources = set_of(8)), [1, 2, 0, 12]),
+        (altered(&held, 2, &|t| t.sources = set_of(4)), [1, 2, 4, 8]),
+        (altered(&held, 2, &|t| t.sources = set_of(14)), [1, 6, 4, 12]),
+        (altered(&held, 0, &|t| t.sources = set_of(9)), [1, 2, 4, 13]),
+        (added, [17, 2, 4, 12]),
+        (in_order(&[0, 1, 2]), [1, 2, 4, 4]),
+        (in_order(&[0, 1, 3]), [1, 2, 0, 4]),
+        (in_order(&[1, 2, 3]), [0, 1, 2, 6]),
+        (in_order(&[0]), [1, 0, 0, 0]),
+        (in_order(&[]), [0, 0, 0, 0]),
+        (in_order(&[1, 0, 2, 3]), [2, 1, 4, 12]),
+        (in_order(&[0, 1, 3, 2]), [1, 2, 8, 12]),
+        (in_order(&[0, 1, 2, 3, 3]), [1, 2, 4, 28]),
+    ];
+    for (other, words) in changed.iter() {
+        b.check("altered, accepted chart", held_code(other) == 0);
+        b.indexes("altered, its own index", other, words);
+        let own = index_by_hand(words);
+        b.check("altered, the old index", codes_with(other, &built, &run) == (20, 20));
+        b.check("altered, the new index", codes_with(other, &own, &run) == (0, 0));
+        b.check("as before, the new index", codes_with(&held, &own, &run) == (20, 20));
+    }
+    let kept = [
+        held.clone(),
+        altered(&held, 1, &|t| t.wait = 0),
+        altered(&held, 0, &|t| t.wait = 86_400_000),
+        altered(&held, 0, &|t| t.targets = set_of(8)),
+        altered(&held, 3, &|t| t.targets = set_of(7)),
+        altered(&held, 0, &|t| t.on = Set::new()),
+        altered(&held, 0, &|t| t.off = set_of(1 << 40)),
+        in_edition(&held, 2),
+        altered_all(&held, &|held| held.counts.cases = 0),
+        altered_all(&held, &|held| held.counts.blocks = 0),
+        altered_all(&held, &|held| held.tables.actions.reverse()),
+        altered_all(&held, &|held| held.tables.steps = vec![Step { initial: 1 }; 4]),
+        altered_all(&held, &|held| {
+            held.tables.steps.push(Step { initial: 1 });
+            held.counts.steps = 5;
+        }),
+        altered_all(&held, &|held| {
+            held.tables.steps.resize(64, Step { initial: 0 });
+            held.counts.steps = 64;
+        }),
+    ];
+    for other in kept.iter() {
+        b.check("kept, accepted chart", held_code(other) == 0);
+        b.check("kept, the index built", build_index(other).index == built);
+        b.check("kept, the old index", codes_with(other, &built, &run) == (0, 0));
+        let cycles = cycles_of_all();
+        let run = played(other, 4_294_967_000, &[]).0.run;
+        let whole = shifted(other, &run, &cycles);
+        b.check("kept, a shift", shifted_with(other, &built, &run, &cycles) == whole);
+    }
+    // Two transitions with the same sources exchange their places: the same index, and the cycle
+    // goes by the chart as it is now.
+    let moves = [transition(1, 2, 0, 0, 0), transition(1, 4, 0, 0, 0)];
+    let one = held_steps(&[1, 0, 0], &moves);
+    let two = altered_all(&one, &|held| held.tables.transitions.reverse());
+    let index = build_index(&one).index;
+    let after = |held: &Held| cycled_with(held, &index, &began(held), (1001, 0), 34).3;
+    b.check("exchanged, before", word_of(&after(&one).active) == 2);
+    b.check("exchanged, after", word_of(&after(&two).active) == 4);
+    b.check("exchanged, same index", codes_with(&two, &index, &began(&two)) == (0, 0));
+}
+
+// Request (ix): "20 when it is not exactly the index of this chart" (charts by lot, one transition
+// taken from another after the index was built: 20 just where its sources are others than before)
+fn check_index_altered_by_lot(b: &mut Bench) {
+    let mut lot = 31;
+    let (mut others, mut same) = (0, 0);
+    for _ in 0..150 {
+        let held = held_by_lot(&mut lot);
+        let index = build_index(&held).index;
+        let anew = held_by_lot(&mut lot).tables.transitions;
+        for (k, (before, after)) in held.tables.transitions.iter().zip(&anew).enumerate() {
+            let differ = before.sources != after.sources;
+            let other = altered(&held, k, &|t| *t = after.clone());
+            let wanted = if differ { (20, 20) } else { (0, 0) };
+            b.check("taken from another", codes_with(&other, &index, &began(&held)) == wanted);
+            b.check("its own index", build_index(&other).index == index_by(&other, |t| &t.sources));
+            others += usize::from(differ);
+            same += usize::from(!differ);
+        }
+    }
+    b.check("others and the same", others > 500 && same > 50);
+}
+
+// Document 01: "a cycle tests 15, chart, 12, 11"; request (iii): "15, chart, 12, then 18 ...; then
+// 11, at its place"; request (ix): "20 ..., tested after the chart and before 12" (every set of
+// these faults, with each number of a chart)
+fn check_index_order(b: &mut Bench) {
+    let right = index_by_hand(&[1, 2]);
+    let wrong = [
+        index_by_hand(&[]),
+        index_by_hand(&[2, 1]),
+        index_by_hand(&[1, 2, 1]),
+        index_by_hand(&[1, 2 | 1 << 63]),
+        index_by_hand(&[u64::MAX; 64]),
+    ];
+    let mut strange = run_a();
+    strange.active = numbers(3);
+    let mut counted = run_a();
+    put(&mut counted.step_counters, 1, 1);
+    let strange = [strange, counted, with_mark(&run_a(), 2)];
+    let charts = [vec![(0, held_a())], refused_charts()].concat();
+    for (k, (number, held)) in charts.iter().enumerate() {
+        for faults in 0..32 {
+            let has = |bit: u32| (faults >> bit) & 1 == 1;
+            let or_0 = |holds: bool, code: Code| if holds { code } else { 0 };
+            let lent = if has(0) { 31 } else { 34 };
+            let wrong = wrong.get((k + faults) % 5).unwrap_or(&right);
+            let index = if has(1) { wrong } else { &right };
+            let strange = strange.get((k + faults) % 3).cloned().unwrap_or_else(run_a);
+            let run = if has(2) { strange } else { run_a() };
+            let clock = if has(3) { 999 } else { 1010 };
+            let lengths = if has(4) { [1, 2, 3] } else { [1; 3] };
+            let first = |codes: &[Code]| codes.iter().copied().find(|code| *code != 0).unwrap_or(0);
+            let (few, other) = (or_0(has(0), 15), or_0(has(1), 20));
+            let (odd, late) = (or_0(has(2), 12), or_0(has(3), 11));
+            let code = first(&[few, *number, other, odd, late]);
+            let wanted = match code {
+                0 => cycled(held, &run, (clock, 1), lent),
+                code => refused_cycle(code, &run, lent),
+            };
+            let answer = cycled_with(held, index, &run, (clock, 1), lent);
+            b.check("the first of these numbers, cycle", answer == wanted);
+            let answer = cycled_leaving(held, index, &run, (clock, 1), lent);
+            b.check("the same, consulting fewer", answer == wanted);
+            let code = first(&[few, *number, other, odd, or_0(has(4), 18), late]);
+            let answer = shift_code_with((held, index), &run, lengths, lent, clock);
+            let wanted = if code == 0 { 99 } else { code };
+            b.check("the first of these numbers, shift", answer == wanted);
+        }
+    }
+}
+
+// The same, pair by pair as the documents put them: 15, chart, 20, 12, 18, 11; and a shift of no
+// cycles, which tests its index too
+fn check_index_pairs(b: &mut Bench) {
+    let a = held_a();
+    let right = index_by_hand(&[1, 2]);
+    let wrong = index_by_hand(&[1, 3]);
+    let mut strange = run_a();
+    strange.active = numbers(3);
+    let broken = altered_all(&a, &|held| held.counts.steps = 65);
+    let code = |held: &Held, index: &[Set], run: &Run, clock: u32, lent: usize| {
+        let answer = cycled_with(held, index, run, (clock, 1), lent);
+        if answer == refused_cycle(answer.0, run, lent) { answer.0 } else { 99 }
+    };
+    b.check("cycle: 15 before the chart", code(&broken, &right, &run_a(), 1010, 31) == 15);
+    b.check("cycle: 15 before 20", code(&a, &wrong, &run_a(), 1010, 31) == 15);
+    b.check("cycle: 15 before 20, none lent", code(&a, &wrong, &run_a(), 1010, 0) == 15);
+    b.check("cycle: 15 before 12", code(&a, &right, &strange, 1010, 31) == 15);
+    b.check("cycle: 15 before 11", code(&a, &right, &run_a(), 999, 31) == 15);
+    b.check("cycle: the chart before 20", code(&broken, &wrong, &run_a(), 1010, 32) == 4);
+    b.check("cycle: the chart before 12", code(&broken, &right, &strange, 1010, 32) == 4);
+    b.check("cycle: the chart before 11", code(&broken, &right, &run_a(), 999, 32) == 4);
+    b.check("cycle: 20 before 12", code(&a, &wrong, &strange, 1010, 32) == 20);
+    b.check("cycle: 20 before 11", code(&a, &wrong, &run_a(), 999, 32) == 20);
+    b.check("cycle: 12 before 11", code(&a, &right, &strange, 999, 32) == 12);
+    b.check("cycle: 20 alone", code(&a, &wrong, &run_a(), 1010, 32) == 20);
+    b.check("cycle: 11 alone", code(&a, &right, &run_a(), 999, 32) == 11);
+    b.check("cycle: none of them", code(&a, &right, &run_a(), 1010, 32) == 99);
+    b.check("cycle: 20 under hold", code(&a, &wrong, &with_mark(&run_a(), 1), 1010, 32) == 20);
+    for lengths in [[1, 2, 3], [0, 0, 1], [4097; 3], [65_536; 3]].iter() {
+        let code = |held: &Held, index: &[Set], run: &Run, lent: usize| {
+            shift_code_with((held, index), run, *lengths, lent, 999)
+        };
+        b.check("shift: 15 before 20 and 18", code(&a, &wrong, &run_a(), 31) == 15);
+        b.check("shift: the chart before 18", code(&broken, &right, &run_a(), 32) == 4);
+        b.check("shift: the chart before 20", code(&broken, &wrong, &strange, 32) == 4);
+        b.check("shift: 20 before 12", code(&a, &wrong, &strange, 32) == 20);
+        b.check("shift: 20 before 18", code(&a, &wrong, &run_a(), 32) == 20);
+        b.check("shift: 12 before 18", code(&a, &right, &strange, 32) == 12);
+        b.check("shift: 18 before 11", code(&a, &right, &run_a(), 32) == 18);
+    }
+    for lengths in [[0; 3], [1; 3], [4096; 3]].iter() {
+        let code = |index: &[Set]| shift_code_with((&a, index), &run_a(), *lengths, 32, 999);
+        b.check("shift: 20 before 11", code(&wrong) == 20);
+        b.check("shift: 11, or no cycle", code(&right) == if *lengths == [0; 3] { 0 } else { 11 });
+    }
+    let none = (0, 0, run_a(), vec![], vec![5; 34]);
+    b.check("shift: no cycles", shifted_with(&a, &right, &run_a(), &[]) == none);
+    let none = (20, 0, run_a(), vec![], vec![5; 34]);
+    b.check("shift: no cycles, 20", shifted_with(&a, &wrong, &run_a(), &[]) == none);
+}
+
+// Request (ix): "takes the same ones, in both editions, and gives the same answer throughout"
+// (chart A's trace and the bench examples, by hand, with the index)
+fn check_index_by_hand(b: &mut Bench) {
+    let a = held_a();
+    let index = index_by_hand(&[1, 2]);
+    let with = |run: &Run, go| cycled_with(&a, &index, run, go, 34);
+    let first = with(&run_a(), (1010, 1));
+    b.check("call 1", (first.0, first.1) == (0, 1) && first.2 == reasons_by_hand("01"));
+    b.check("call 1, steps", word_of(&first.3.active) == 2 && word_of(&first.3.activity) == 3);
+    b.check("call 1, outputs", first.4 == [vec![120], vec![0; 31], vec![5; 2]].concat());
+    let early = with(&first.3, (1509, 2));
+    b.check("1509", (early.0, early.1) == (0, 0) && early.2 == reasons_by_hand("14"));
+    b.check("1509, steps", word_of(&early.3.active) == 2 && early.3.good.is_empty());
+    let second = with(&first.3, (1510, 2));
+    b.check("call 2", (second.0, second.1) == (0, 2) && second.2 == reasons_by_hand("10"));
+    b.check("call 2, steps", word_of(&second.3.active) == 1 && word_of(&second.3.good) == 1);
+    b.check("call 2, outputs", second.4 == [vec![0; 32], vec![5; 2]].concat());
+    let held = with(&with_mark(&first.3, 1), (1510, 2));
+    b.check("under hold", (held.0, held.1) == (0, 0) && held.2 == reasons_by_hand("77"));
+    b.check("under hold, counter", at(&held.3.step_counters, 1) == 0 && held.3.clock == 1510);
+    b.check("under hold, outputs", at(&held.4, 0) == 120 && held.3.hold_mark == 1);
+    let nobody = with(&zero_run(), (0, 3));
+    b.check("no active step", nobody.0 == 0 && nobody.2 == reasons_by_hand("11"));
+    let late = refused_cycle(11, &run_a(), 34);
+    b.check("60,001", with(&run_a(), (61_001, 1)) == late && with(&run_a(), (999, 1)) == late);
+    // "Steps 0 and 1 initial, 0→2 and 1→2 both true: only the first is taken" (in edition 2 both)
+    let moves = [transition(1, 4, 0, 0, 0), transition(2, 4, 0, 0, 0)];
+    let claimed = held_steps(&[1, 1, 0], &moves);
+    let index = index_by_hand(&[1, 2, 0]);
+    let one = cycled_with(&claimed, &index, &began(&claimed), (1001, 0), 34);
+    b.check("claimed", one.1 == 1 && one.2 == reasons_by_hand("06"));
+    let next = cycled_with(&claimed, &index, &one.3, (1002, 0), 34);
+    b.check("claimed, then none", next.1 == 0 && next.2 == reasons_by_hand("15"));
+    let second = in_edition(&claimed, 2);
+    let two = cycled_with(&second, &index, &began(&second), (1001, 0), 34);
+    b.check("claimed, edition 2", two.1 == 3 && two.2 == reasons_by_hand("00"));
+    b.check("claimed, steps", word_of(&one.3.active) == 6 && word_of(&two.3.active) == 4);
+    // The shift of chart A that is worked out in `check_shift_several`, and a refused cycle in it.
+    let index = index_by_hand(&[1, 2]);
+    let cycles = [(1010, 1), (1509, 2), (1510, 2), (1510, 0), (1520, 1)];
+    let (code, accepted, run, words, outputs) = shifted_with(&a, &index, &run_a(), &cycles);
+    b.check("five cycles", (code, accepted) == (0, 5) && words == vec![3, 3, 0, 0, 3]);
+    b.check("five cycles, run", run.clock == 1520 && word_of(&run.active) == 2);
+    b.check("five cycles, outputs", at(&outputs, 0) == 120 && at(&outputs, 33) == 5);
+    let cycles = [(1010, 1), (1009, 0), (1510, 2)];
+    let (code, accepted, run, words, outputs) = shifted_with(&a, &index, &run_a(), &cycles);
+    b.check("middle refused", (code, accepted, run.clock) == (11, 1, 1010));
+    b.check("middle refused, words", words == vec![3, u64::MAX - 1, u64::MAX - 2]);
+    b.check("middle refused, outputs", at(&outputs, 0) == 120);
+    let cycle_of = |k: u32| (1500 + 500 * k, 1 + k % 2);
+    let cycles: Vec<(u32, u32)> = (0..4096).map(cycle_of).collect();
+    let (code, accepted, run, words, _) = shifted_with(&a, &index, &run_a(), &cycles);
+    b.check("4,096 cycles", (code, accepted, run.clock) == (0, 4096, 2_049_000));
+    b.check("4,096 cycles, words", words == [3, 0].repeat(2048));
+    let held = with_mark(&run_a(), 1);
+    let (code, accepted, run, words, _) = shifted_with(&a, &index, &held, &[(1010, 1), (1020, 1)]);
+    b.check("held shift", (code, accepted) == (0, 2) && words == vec![0, 0]);
+    b.check("held shift, run", word_of(&run.active) == 1 && run.hold_mark == 1);
+}
+
+// Request (ix): "consults only transitions leaving some active step" (which ones, by hand)
+fn check_index_leaving(b: &mut Bench) {
+    let consulted = |words: &[u64], active: u64| {
+        word_of(&leaving_some(&index_by_hand(words), &set_of(active)))
+    };
+    b.check("chart A, step 0", consulted(&[1, 2], 1) == 1);
+    b.check("chart A, step 1", consulted(&[1, 2], 2) == 2);
+    b.check("chart A, both", consulted(&[1, 2], 3) == 3);
+    b.check("chart A, none", consulted(&[1, 2], 0) == 0);
+    b.check("a join, one source", consulted(&[1, 1, 0], 1) == 1);
+    b.check("a join, the other source", consulted(&[1, 1, 0], 2) == 1);
+    b.check("a join, its target", consulted(&[1, 1, 0], 4) == 0);
+    b.check("all qualifiers, steps 1 and 3", consulted(&[1, 2, 4, 12], 10) == 14);
+    b.check("64 words", consulted(&[1 << 63; 64], u64::MAX) == 1 << 63);
+    // What is consulted, in number order, and what the others get: a join with one active source is
+    // consulted and not taken; a chain and an unreached step are not consulted.
+    let go = |sources, targets| transition(sources, targets, 0, 0, 0);
+    let moves = [go(4, 8), go(6, 8), go(2, 16), go(8, 1), go(2, 8), go(1, 16)];
+    for held in [held_steps(&[1, 1, 0, 0, 0], &moves), second_steps(&[1, 1, 0, 0, 0], &moves)] {
+        let index = index_by_hand(&[32, 22, 3, 8, 0]);
+        b.indexes("six transitions", &held, &[32, 22, 3, 8, 0]);
+        let run = began(&held);
+        b.check("consulted", word_of(&leaving_some(&index, &run.active)) == 54);
+        let answer = b.agree("six transitions", &held, &index, &run, (1001, 0));
+        let second = held.tables.edition == 2;
+        b.check("taken", answer.1 == if second { 36 } else { 4 });
+        b.check("reasons", answer.2 == reasons_by_hand(if second { "110120" } else { "110126" }));
+    }
+}
+
+// Request (ix): "takes the same ones, in both editions, and gives the same answer throughout" (on
+// a chart with fork, join and several transitions from one step: every set of active steps, every
+// input, every wait, with and without hold)
+fn check_index_all_sets(b: &mut Bench) {
+    let moves = [
+        transition(1, 6, 1, 0, 0),
+        transition(6, 1, 2, 0, 10),
+        transition(2, 8, 0, 1, 0),
+        transition(2, 4, 4, 0, 0),
+        transition(12, 2, 0, 4, 10),
+        transition(8, 4, 1, 2, 0),
+        transition(1, 8, 0, 3, 10),
+    ];
+    let (mut reasons, mut fewer) = (BTreeSet::new(), 0);
+    for edition in [1, 2].iter() {
+        let held = in_edition(&held_steps(&[1, 0, 0, 0], &moves), *edition);
+        let index = index_by_hand(&[65, 14, 18, 48]);
+        b.indexes("seven transitions", &held, &[65, 14, 18, 48]);
+        for word in 0..16 {
+            for inputs in 0..8 {
+                for (late, mark) in [(9, 0), (10, 0), (10, 1)].iter() {
+                    let mut run = with_mark(&zero_run(), *mark);
+                    run.active = set_of(word);
+                    let answer = b.agree("every set", &held, &index, &run, (*late, inputs));
+                    b.check("accepted", answer.0 == 0);
+                    reasons.extend(answer.2);
+                    fewer += usize::from(leaving_some(&index, &run.active).len() < 7);
+                }
+            }
+        }
+    }
+    b.check("every reason with 7", reasons == (0..8).collect() && fewer > 100);
+}
+
+// Each number below a count with one chance in so many, drawn by lot.
+fn some_by_lot(lot: &mut u64, count: u64, of: u64) -> Set {
+    (0..count as usize).filter(|_| next_lot(lot) % of == 0).collect()
+}
+
+// One to three numbers below a count, drawn by lot, in a word.
+fn few_by_lot(lot: &mut u64, count: u64) -> u64 {
+    let more = next_lot(lot) % 3;
+    (0..more + 1).fold(0, |word, _| word | 1 << (next_lot(lot) % count))
+}
+
+// A chart drawn by lot of so many steps, at least two, and at most so many transitions, with three
+// actions, three blocks and a case for every fourth step.
+fn wide_by_lot(lot: &mut u64, steps: u64, transitions: u64) -> Held {
+    let mut records = vec![step(1)];
+    records.extend((1..steps).map(|_| step((next_lot(lot) % 2) as u8)));
+    records.extend((0..3).map(|k| action(k, 10 + i32::from(k))));
+    for _ in 0..transitions {
+        let sources = few_by_lot(lot, steps);
+        let mut targets = few_by_lot(lot, steps) & !sources;
+        if targets == 0 {
+            targets = (u64::MAX >> (64 - steps)) & !sources;
+        }
+        let on = next_lot(lot) & next_lot(lot) & next_lot(lot) & 3 | (next_lot(lot) % 8 / 7) << 32;
+        let off = next_lot(lot) & next_lot(lot) & next_lot(lot) & 7 & !on;
+        if targets != 0 {
+            records.push(transition(sources, targets, on, off, (next_lot(lot) % 3 * 10) as u32));
+        }
+    }
+    let place = |lot: &mut u64| (next_lot(lot) % steps) as u8;
+    records.extend([block(place(lot), 0, 0, 0), block(place(lot), 1, 6, 15)]);
+    records.extend([block(place(lot), 2, 4, 10), block(place(lot), 1, 1, 0)]);
+    records.extend((0..steps).step_by(4).map(|k| case(k as u8, (next_lot(lot) % 3) as u8, 1)));
+    held_of(&records)
+}
+
+// "A run belongs to a chart if ..." (such a run drawn by lot, whether or not a start leads to it;
+// with no, few, many or all steps active, and now and then with the hold mark)
+fn run_by_lot(lot: &mut u64, held: &Held) -> Run {
+    let counts = &held.counts;
+    let of = at(&[1, 2, 4, 16, 1000], (next_lot(lot) % 5) as usize);
+    let mut run = zero_run();
+    run.clock = next_lot(lot) as u32 * 2;
+    run.active = some_by_lot(lot, counts.steps, of);
+    run.activity = some_by_lot(lot, counts.actions, 2);
+    run.stored = some_by_lot(lot, counts.actions, 4);
+    run.latched = some_by_lot(lot, counts.actions, 2);
+    run.good = some_by_lot(lot, counts.cases, 3);
+    run.bad = some_by_lot(lot, counts.cases, 3);
+    let times = [0, 1, 5, 10, 20, 86_399_995, 86_400_000];
+    for k in run.active.iter() {
+        put(&mut run.step_counters, *k, at(&times, (next_lot(lot) % 7) as usize));
+    }
+    for k in run.latched.iter() {
+        put(&mut run.action_timers, *k, at(&times, (next_lot(lot) % 7) as usize));
+    }
+    run.hold_mark = u8::from(next_lot(lot) % 8 == 0);
+    run
+}
+
+// What charts and runs by lot have shown, so that the comparison is not one of nothing.
+#[derive(Default)]
+struct Shown {
+    taken: u64,
+    fewer: u64,
+    nobody: u64,
+    held: u64,
+    reasons: BTreeSet<u8>,
+}
+
+// One cycle by the three ways, and what it shows: every transition not consulted has reason 1, or 7
+// under hold, and none of them is taken.
+fn show(b: &mut Bench, held: &Held, index: &[Set], run: &Run, go: (u32, u32), shown: &mut Shown) {
+    let answer = b.agree("by lot, three ways", held, index, run, go);
+    b.check("by lot, accepted", answer.0 == 0);
+    let consulted = leaving_some(index, &run.active);
+    let others: Set = numbers(held.counts.transitions as usize);
+    let others: Set = others.difference(&consulted).copied().collect();
+    let reason = if run.hold_mark == 1 { 7 } else { 1 };
+    b.check("not consulted", others.iter().all(|k| at(&answer.2, *k) == reason));
+    b.check("taken are consulted", set_of(answer.1).is_subset(&consulted));
+    shown.taken += u64::from(answer.1.count_ones());
+    shown.fewer += u64::from(!others.is_empty());
+    shown.nobody += u64::from(run.active.is_empty());
+    shown.held += u64::from(run.hold_mark == 1);
+    shown.reasons.extend(answer.2);
+}
+
+// Request (ix): "takes the same ones, in both editions, and gives the same answer throughout"
+// (charts by lot of six steps and eight transitions: cycles one after the other from a start, with
+// the hold key turned between, and from runs by lot)
+fn check_index_by_lot(b: &mut Bench) {
+    let mut lot = 37;
+    let mut shown = Shown::default();
+    for edition in [1, 2].repeat(120) {
+        let held = in_edition(&held_by_lot(&mut lot), edition);
+        let index = build_index(&held).index;
+        b.check("by lot, the index", index == index_by(&held, |t| &t.sources));
+        let mut run = began(&held);
+        for _ in 0..10 {
+            let go = (run.clock + next_lot(&mut lot) as u32 % 15, next_lot(&mut lot) as u32 % 8);
+            show(b, &held, &index, &run, go, &mut shown);
+            run = cycled(&held, &run, go, 34).3;
+            run.hold_mark = u8::from(next_lot(&mut lot) % 10 == 0);
+        }
+        for _ in 0..5 {
+            let run = run_by_lot(&mut lot, &held);
+            let late = next_lot(&mut lot) as u32 % 15;
+            let go = (run.clock.wrapping_add(late), next_lot(&mut lot) as u32 % 8);
+            show(b, &held, &index, &run, go, &mut shown);
+        }
+    }
+    b.check("by lot, taken", shown.taken > 1000 && shown.reasons == (0..8).collect());
+    b.check("by lot, fewer", shown.fewer > 1000 && shown.nobody > 100 && shown.held > 100);
+}
+
+// The same on wider charts, up to 64 steps and 64 transitions, down to none.
+fn check_index_wide(b: &mut Bench) {
+    let mut lot = 41;
+    let mut shown = Shown::default();
+    let sizes = [(64, 64), (64, 20), (2, 64), (9, 64), (20, 40), (33, 5), (64, 1), (40, 0)];
+    for (steps, transitions) in sizes.repeat(4) {
+        let first = wide_by_lot(&mut lot, steps, transitions);
+        b.check("wide, accepted", held_code(&first) == 0);
+        for edition in [1, 2].iter() {
+            let held = in_edition(&first, *edition);
+            let index = build_index(&held).index;
+            b.check("wide, the index", index == index_by(&held, |t| &t.sources));
+            let mut run = began(&held);
+            for k in 0..7 {
+                let late = next_lot(&mut lot) as u32 % 15;
+                let go = (run.clock.wrapping_add(late), next_lot(&mut lot) as u32 % 8);
+                show(b, &held, &index, &run, go, &mut shown);
+                run = match k {
+                    0..=2 => cycled(&held, &run, go, 34).3,
+                    _ => run_by_lot(&mut lot, &held),
+                };
+            }
+        }
+    }
+    b.check("wide, taken", shown.taken > 200 && shown.reasons == (0..8).collect());
+    b.check("wide, fewer", shown.fewer > 100 && shown.nobody > 5 && shown.held > 5);
+}
+
+// Requests (iii) and (ix): "The result equals the calls made singly."; "gives the same answer
+// throughout" (shifts by lot: without an index, with it, and made singly by cycles that consult
+// fewer; whole, under hold, and with a refused cycle in them)
+fn check_index_shift(b: &mut Bench) {
+    let mut lot = 43;
+    let clock = 4_294_967_000;
+    for k in 0..40 {
+        let first = if k == 0 { held_of_all() } else { held_by_lot(&mut lot) };
+        for edition in [1, 2].iter() {
+            let held = in_edition(&first, *edition);
+            let index = build_index(&held).index;
+            let run = played(&held, clock, &[]).0.run;
+            let mut refused = cycles_of_all();
+            let last = played(&held, clock, refused.get(..k).unwrap_or(&[])).0.run.clock;
+            put(&mut refused, k, (last.wrapping_sub(1), 7));
+            let whole = cycles_of_all();
+            for (mark, cycles) in [(0, whole.clone()), (1, whole), (0, refused)].iter() {
+                let run = with_mark(&run, *mark);
+                let plain = shifted(&held, &run, cycles);
+                b.check("a shift with", shifted_with(&held, &index, &run, cycles) == plain);
+                b.check("a shift singly", shifted_leaving(&held, &index, &run, cycles) == plain);
+                let far = (plain.0, plain.1);
+                b.check("accepted so far", far == (0, 40) || far == (11, k as u64));
+                let other = turned_bit(&index, k % 6, (5 * k) % 64);
+                let nothing = (20, 0, run.clone(), lent_words(40), vec![5; 34]);
+                b.check("a shift, 20", shifted_with(&held, &other, &run, cycles) == nothing);
+            }
+        }
+    }
+}
+
+// That the comparison would show a difference: with a transition missing from the index, a cycle
+// that consults by it alone answers something else now and then; with transitions too many it
+// answers the same (request (ix): "consults only ..." is about which need not be consulted).
+fn check_index_teeth(b: &mut Bench) {
+    let mut lot = 47;
+    let (mut less, mut more) = (0, 0);
+    for edition in [1, 2].repeat(60) {
+        let held = in_edition(&held_by_lot(&mut lot), edition);
+        let index = build_index(&held).index;
+        let mut run = run_by_lot(&mut lot, &held);
+        run.hold_mark = 0;
+        let go = (run.clock.wrapping_add(20), next_lot(&mut lot) as u32 % 8);
+        let plain = cycled(&held, &run, go, 34);
+        let by = |index: &[Set]| {
+            let mut outputs = vec![5; 34];
+            let answer = do_cycle_leaving(&held.tables, index, &run, go, &mut outputs);
+            all_of(answer, outputs)
+        };
+        for k in 0..8 {
+            let without = index.iter().map(|x| x.iter().copied().filter(|t| *t != k).collect());
+            let without: Vec<Set> = without.collect();
+            let differs = by(&without) != plain;
+            let reason = at(&plain.2, k);
+            b.check("one missing, seen", differs == (reason != 1));
+            less += usize::from(differs);
+            let beside: Vec<Set> = index.iter().map(|x| x | &numbers(k)).collect();
+            b.check("some too many", by(&beside) == plain);
+            let consulted = |index: &[Set]| leaving_some(index, &run.active);
+            more += usize::from(consulted(&beside) != consulted(&index));
+        }
+    }
+    b.check("both happened", less > 100 && more > 100);
+}
+
+// For the command line: eight bytes each, least byte first.
+fn eight_bytes(values: &[u64]) -> Vec<u8> {
+    values.iter().flat_map(|value| value.to_le_bytes().to_vec()).collect()
+}
+
+// For the command line: the image of `held_image` with bytes at these places.
+fn image_with(bytes: &[(usize, u8)]) -> Vec<u8> {
+    let mut image = held_image();
+    for (place, byte) in bytes.iter() {
+        put(&mut image, *place, *byte);
+    }
+    image
+}
+
+// For the command line: the lines of all the calls on this image, and whether nothing is left.
+fn lines_with(image: &[u8], calls: &[Vec<u8>]) -> (String, bool) {
+    let input = calls.iter().flat_map(|call| [image, call].concat()).collect::<Vec<u8>>();
+    let mut fields = Fields::new(&input);
+    let mut lines = Vec::new();
+    while let Some(line) = held_case(&mut fields) {
+        lines.extend(line);
+    }
+    (String::from_utf8(lines).unwrap_or_default(), fields.place == input.len())
+}
+
+// For the command line: the line of building an index, by hand.
+fn check_index_lines(b: &mut Bench) {
+    let zeros = |count: usize| " 0".repeat(count);
+    let build = || call_bytes(8, 0, 0, 0, 0);
+    let line = |image: &[u8]| lines_with(image, &[build()]);
+    let whole = |line: String| (line, true);
+    b.check("line of 8, no transitions", line(&held_image()) == whole(format!("0{}\n", zeros(64))));
+    // Two steps; transition 0 from 0 to 1.
+    let two: &[(usize, u8)] = &[(0, 2), (16, 1), (264, 1), (776, 2)];
+    let with = |more: &[(usize, u8)]| image_with(&[two, more].concat());
+    b.check("line of 8", line(&with(&[])) == whole(format!("0 1{}\n", zeros(63))));
+    // Transition 1 from 1 to 0, and then both from 1.
+    let more = [(16, 2), (272, 2), (784, 1)];
+    b.check("line of 8, two", line(&with(&more)) == whole(format!("0 1 2{}\n", zeros(62))));
+    let more = [(16, 2), (264, 2), (776, 1), (272, 2), (784, 1)];
+    b.check("line of 8, from one", line(&with(&more)) == whole(format!("0 0 3{}\n", zeros(62))));
+    let more = [(272, 2), (784, 1)];
+    b.check("line of 8, one counted", line(&with(&more)) == whole(format!("0 1{}\n", zeros(63))));
+    let more = [(272, 255), (279, 255), (784, 255), (4552, 2)];
+    b.check("line of 8, junk", line(&with(&more)) == whole(format!("0 1{}\n", zeros(63))));
+    // 64 steps and 64 transitions: 63 from 0 to 1, the last from 63 to 0; or all from 0 to 1.
+    let mut full = with(&[(0, 64), (16, 64)]);
+    for k in 1..64 {
+        put(&mut full, 264 + 8 * k, 1);
+        put(&mut full, 776 + 8 * k, 2);
+    }
+    let ones = format!("0 18446744073709551615{}\n", zeros(63));
+    b.check("line of 8, all ones", line(&full) == whole(ones));
+    for (place, byte) in [(264 + 8 * 63, 0), (264 + 8 * 63 + 7, 128), (776 + 8 * 63, 1)].iter() {
+        put(&mut full, *place, *byte);
+    }
+    let words = format!("0 9223372036854775807{} 9223372036854775808\n", zeros(62));
+    b.check("line of 8, the last", line(&full) == whole(words));
+    // Refused: each number of a chart, and 64 zeros.
+    let refused: [(Code, &[(usize, u8)]); 11] = [
+        (4, &[(0, 65)]),
+        (4, &[(7, 1)]),
+        (4, &[(16, 65)]),
+        (5, &[(264, 5)]),
+        (5, &[(4552, 0)]),
+        (5, &[(4552, 3)]),
+        (6, &[(264, 0)]),
+        (6, &[(264, 3)]),
+        (7, &[(1288, 1), (1800, 1)]),
+        (9, &[(40, 0)]),
+        (8, &[(24, 2), (3081, 3)]),
+    ];
+    for (code, bytes) in refused.iter() {
+        let zero = format!("{}{}\n", code, zeros(64));
+        b.check("line of 8, refused", line(&with(bytes)) == whole(zero));
+    }
+    // Clock, inputs, lent outputs and the run play no part, the weights are passed over.
+    let strange = with(&[(4564, 255), (4996, 9)]);
+    let one = format!("0 1{}\n", zeros(63));
+    b.check("line of 8, any run", line(&strange) == whole(one.clone()));
+    let other = [call_bytes(8, u32::MAX, u32::MAX, 255, 3), vec![9; 6]].concat();
+    let calls = [build(), other.clone(), call_bytes(2, 0, 0, 0, 0), other];
+    let lines = [&one, &one, "0 0 0 0\n", &one].concat();
+    b.check("line of 8, one after the other", lines_with(&with(&[]), &calls) == whole(lines));
+    for kind in [11, 12, 64, 255].iter() {
+        let unknown = lines_with(&with(&[]), &[call_bytes(*kind, 0, 0, 0, 0), build()]);
+        b.check("no such call", unknown == whole(format!("unknown call\n{}", one)));
+    }
+}
+
+// For the command line: the lines of a cycle and of a shift with an index, by hand.
+fn check_index_call_lines(b: &mut Bench) {
+    let zeros = |count: usize| " 0".repeat(count);
+    let whole = |line: &str| (line.to_string(), true);
+    // Two steps; transition 0 from 0 to 1 with a wait of 200; the action is active from 100 on.
+    let two: &[(usize, u8)] = &[(0, 2), (16, 1), (264, 1), (776, 2), (2312, 200)];
+    let with = |more: &[(usize, u8)]| image_with(&[two, more].concat());
+    let image = with(&[]);
+    let words = |first: u64, last: u64| {
+        [eight_bytes(&[first]), vec![0; 62 * 8], eight_bytes(&[last])].concat()
+    };
+    let right = words(1, 0);
+    let run = |text: &str, counters: &str| format!("{} 0 0 0 0 0 {}{}", text, counters, zeros(94));
+    let out = |first: i32| format!(" {}{}", first, zeros(31));
+    let lent: String = (0..32).map(|k| format!(" {}", 1000 + k)).collect();
+    let cycle = |clock, lent, index: &[u8]| [&call_bytes(9, clock, 0, lent, 0), index].concat();
+    let waits = format!("{}{} 4{}\n", run("0 0 1199 1 1", "199 0"), out(7), zeros(63));
+    let taken = format!("{}{}{}\n", run("0 1 1200 2 0", "0 0"), out(0), zeros(64));
+    b.check("line of 9, 4", lines_with(&image, &[cycle(1199, 32, &right)]) == whole(&waits));
+    b.check("line of 9, taken", lines_with(&image, &[cycle(1200, 32, &right)]) == whole(&taken));
+    let plain = [call_bytes(1, 1199, 0, 32, 0), call_bytes(1, 1200, 0, 32, 0)];
+    let both = [waits.as_str(), &taken].concat();
+    b.check("the same without", lines_with(&image, &plain) == whole(&both));
+    let refused = |code: Code| {
+        format!("{} 0 {}{}{}\n", code, run("1000 1 0", "0 0"), lent, zeros(64))
+    };
+    let code = |image: &[u8], clock, index: &[u8], code| {
+        lines_with(image, &[cycle(clock, 32, index)]) == whole(&refused(code))
+    };
+    let others = [(0, 0), (2, 0), (3, 0), (1 << 56, 0), (1, 1), (1, 1 << 63), (0, 1)];
+    for (first, last) in others.iter() {
+        b.check("line of 9, 20", code(&image, 1199, &words(*first, *last), 20));
+        b.check("line of 9, 20 before 11", code(&image, 999, &words(*first, *last), 20));
+    }
+    b.check("line of 9, all ones", code(&image, 1199, &[255; 512], 20));
+    b.check("line of 9, 11", code(&image, 999, &right, 11));
+    let few = format!("{} 1000{}\n", run("15 0 1000 1 0", "0 0"), zeros(64));
+    b.check("line of 9, 15", lines_with(&image, &[cycle(999, 1, &[255; 512])]) == whole(&few));
+    b.check("line of 9, 4 before 20", code(&with(&[(16, 65)]), 999, &[0; 512], 4));
+    // A counter of step 1, which isn't active, is 12.
+    let strange = with(&[(4600, 3)]);
+    let twelve = |code: Code| {
+        format!("{} 0 {}{}{}\n", code, run("1000 1 0", "0 3"), lent, zeros(64))
+    };
+    let answer = |index: &[u8]| lines_with(&strange, &[cycle(999, 32, index)]);
+    b.check("line of 9, 20 before 12", answer(&[0; 512]) == whole(&twelve(20)));
+    b.check("line of 9, 12", answer(&right) == whole(&twelve(12)));
+    // Under hold, and the hold mark kept in a refusal.
+    let mark = with(&[(4996, 1)]);
+    let marked = |text: &str| format!("{} 0 0 0 0 1{}", text, zeros(96));
+    let line = format!("{}{} 7{}\n", marked("0 0 1200 1 0"), out(0), zeros(63));
+    b.check("line of 9, held", lines_with(&mark, &[cycle(1200, 32, &right)]) == whole(&line));
+    let line = format!("{}{}{}\n", marked("20 0 1000 1 0"), lent, zeros(64));
+    let wrong = cycle(1200, 32, &[0; 512]);
+    b.check("line of 9, held, 20", lines_with(&mark, &[wrong]) == whole(&line));
+    // A shift: the index, the clocks and the inputs.
+    let shift = |index: &[u8], counts: [u32; 3], lists: &[u32]| {
+        let [clocks, inputs, words] = counts;
+        let fixed = call_bytes(10, clocks + 65_536 * inputs, words, 32, 0);
+        [&fixed, index, &four_bytes(lists)].concat()
+    };
+    let two_lists = [1199, 1200, 5, 0];
+    let done = format!("{}{} 1 0\n", run("0 2 1200 2 0", "0 0"), out(0));
+    let call = shift(&right, [2; 3], &two_lists);
+    b.check("line of 10", lines_with(&image, &[call.clone()]) == whole(&done));
+    let without = [call_bytes(5, 131_074, 2, 32, 0), four_bytes(&two_lists)].concat();
+    b.check("line of 10, as of 5", lines_with(&image, &[without.clone()]) == whole(&done));
+    let nothing = |code: Code, words: &str| {
+        format!("{}{}{}\n", run(&format!("{} 0 1000 1 0", code), "0 0"), lent, words)
+    };
+    let two_words = " 4294967296 4294967297";
+    let wrong = shift(&words(1, 1), [2; 3], &two_lists);
+    b.check("line of 10, 20", lines_with(&image, &[wrong]) == whole(&nothing(20, two_words)));
+    let call_18 = |index: &[u8]| lines_with(&image, &[shift(index, [1, 2, 2], &[999, 0, 0])]);
+    b.check("line of 10, 20 before 18", call_18(&[1; 512]) == whole(&nothing(20, two_words)));
+    b.check("line of 10, 18", call_18(&right) == whole(&nothing(18, two_words)));
+    let none = |index: &[u8]| lines_with(&image, &[shift(index, [0; 3], &[])]);
+    b.check("line of 10, no cycles", none(&right) == whole(&nothing(0, "")));
+    b.check("line of 10, no cycles, 20", none(&[0; 512]) == whole(&nothing(20, "")));
+    let late = shift(&right, [2; 3], &[1199, 1198, 0, 0]);
+    let eleven = format!("{}{} 1 4294967297\n", run("11 1 1199 1 1", "199 0"), out(7));
+    b.check("line of 10, 11", lines_with(&image, &[late]) == whole(&eleven));
+    // Behind the weights, and one case after the other.
+    let behind = |kind, clock, words| [call_bytes(kind, clock, words, 32, 2), vec![7; 4]].concat();
+    let nine = [behind(9, 1199, 0), right.clone()].concat();
+    let ten = [behind(10, 131_074, 2), right.clone(), four_bytes(&two_lists)].concat();
+    let calls = [nine, ten, without, cycle(1200, 32, &right), call.clone()];
+    let lines = [waits.as_str(), &done, &done, &taken, &done].concat();
+    b.check("behind the weights", lines_with(&image, &calls) == whole(&lines));
+    // A cut index, and a cut list behind a whole one.
+    let cut = |call: &[u8]| call.get(..call.len() - 1).unwrap_or(&[]).to_vec();
+    let once = |line: &str| (line.to_string(), false);
+    let nine = cycle(1199, 32, &right);
+    b.check("a cut index", lines_with(&image, &[nine.clone(), cut(&nine)]) == once(&waits));
+    b.check("a cut list", lines_with(&image, &[call.clone(), cut(&call)]) == once(&done));
+    let no_lists = shift(&right, [2; 3], &[]);
+    b.check("no lists", lines_with(&image, &[call, no_lists]).0 == done);
 }
 
 // ---------------------------------------------------------------------------------------------
