@@ -1,5 +1,5 @@
-/* The plain C engine: one flat chart, 64-bit words as sets, every call tests the chart and the run that it is given, as document 01 asks, a shift
-   once for all its cycles. */
+/* The plain C engine: one flat chart, 64-bit words as sets, every call tests the chart, the index and the run that it is given, as documents 01 and 02
+   ask, a shift once for all its cycles. */
 #include "engine.h"
 
 #include <string.h>
@@ -346,13 +346,18 @@ static inline unsigned belongs(const struct tw_chart *c, const struct tw_run *r)
 	return !(counts_bad(r->counters, TW_STEPS, r->active) | counts_bad(r->timers, TW_ACTIONS, r->latched));
 }
 
-static inline void grow(uint32_t *counts, uint64_t set, uint32_t elapsed)
+/* The counts of a set's members grow. With words, what those of the members have together; 0 for a null. */
+static inline uint64_t grow(uint32_t *counts, uint64_t set, uint32_t elapsed, const uint64_t *words)
 {
+	uint64_t all = 0;
 	for (; set; set &= set - 1) {
 		unsigned k = (unsigned)__builtin_ctzll(set);
 		uint32_t n = counts[k] + elapsed;
 		counts[k] = n < TW_LONGEST ? n : TW_LONGEST;
+		if (words)
+			all |= words[k];
 	}
+	return all;
 }
 
 static inline void clear(uint32_t *counts, uint64_t set)
@@ -394,20 +399,38 @@ static inline enum tw_reason reason(const struct tw_chart *c, const struct tw_ru
 	return targets & m.targets ? TW_CLAIMED : TW_TAKEN;
 }
 
-/* The transitions in number order, and why each is not taken; no reasons for a null. */
-static inline struct moves choose(const struct tw_chart *c, const struct tw_run *r, uint64_t signals, uint8_t *reasons)
+/* The moves with those of transition t, if it is taken, and why it is not; no reason for a null. */
+static inline __attribute__((always_inline)) struct moves consult(const struct tw_chart *c, const struct tw_run *r, uint64_t signals, struct moves m,
+	size_t t, uint8_t *reasons)
 {
-	struct moves m = { 0, 0, 0 };
-	for (size_t t = 0; t < c->transitions; t++) {
-		enum tw_reason why = reason(c, r, signals, m, t);
-		if (reasons)
-			reasons[t] = why;
-		if (why != TW_TAKEN)
-			continue;
+	enum tw_reason why = reason(c, r, signals, m, t);
+	if (reasons)
+		reasons[t] = why;
+	if (why == TW_TAKEN) {
 		m.taken |= BIT(t);
 		m.left |= c->sources[t];
 		m.targets |= c->targets[t];
 	}
+	return m;
+}
+
+/* The transitions in number order. */
+static inline struct moves choose(const struct tw_chart *c, const struct tw_run *r, uint64_t signals, uint8_t *reasons)
+{
+	struct moves m = { 0, 0, 0 };
+	for (size_t t = 0; t < c->transitions; t++)
+		m = consult(c, r, signals, m, t, reasons);
+	return m;
+}
+
+/* Request (ix): only those that leave some active step; none of the others has an active source. */
+static inline struct moves choose_from(const struct tw_chart *c, const struct tw_run *r, uint64_t signals, uint64_t leaving, uint8_t *reasons)
+{
+	struct moves m = { 0, 0, 0 };
+	if (reasons)
+		memset(reasons, TW_NOT_ACTIVE, c->transitions);
+	for (; leaving; leaving &= leaving - 1)
+		m = consult(c, r, signals, m, (size_t)__builtin_ctzll(leaving), reasons);
 	return m;
 }
 
@@ -483,21 +506,53 @@ enum tw_code c_start(const struct tw_chart *c, struct tw_run *r, uint32_t clock,
 	return TW_ACCEPTED;
 }
 
-/* The tests that a cycle's clock has no part in. */
-static enum tw_code ready_code(const struct tw_chart *c, const struct tw_run *r, size_t lent)
+/* Request (ix): a transition goes into the words of its sources. In a chart that was tested each has one. */
+static inline void leaving_of(const struct tw_chart *c, uint64_t leaving[TW_STEPS])
+{
+	uint64_t bit = 1;
+	memset(leaving, 0, TW_STEPS * sizeof *leaving);
+	for (size_t t = 0, n = c->transitions; t < n; t++, bit <<= 1) {
+		uint64_t sources = c->sources[t];
+		do
+			leaving[__builtin_ctzll(sources)] |= bit;
+		while (sources &= sources - 1);
+	}
+}
+
+enum tw_code c_index(const struct tw_chart *c, struct tw_index *x)
+{
+	enum tw_code code = c_test(c);
+	if (code)
+		memset(x, 0, sizeof *x);
+	else
+		leaving_of(c, x->leaving);
+	return code;
+}
+
+static unsigned is_index(const struct tw_chart *c, const struct tw_index *x)
+{
+	uint64_t own[TW_STEPS];
+	leaving_of(c, own);
+	return !memcmp(own, x->leaving, sizeof own);
+}
+
+/* The tests that a cycle's clock has no part in; of an index, unless it is a null. */
+static inline enum tw_code ready_code(const struct tw_chart *c, const struct tw_index *x, const struct tw_run *r, size_t lent)
 {
 	if (lent < TW_OUTPUTS)
 		return TW_FEW_OUTPUTS;
 	enum tw_code code = c_test(c);
 	if (code)
 		return code;
+	if (x && !is_index(c, x))
+		return TW_OTHER_INDEX;
 	return belongs(c, r) ? TW_ACCEPTED : TW_OTHER_RUN;
 }
 
 /* Request (vii): the key turned, to hold or back, after the tests of a cycle but that of the outputs, which it has none of. */
 static enum tw_code turn(const struct tw_chart *c, struct tw_run *r, uint8_t hold)
 {
-	enum tw_code code = ready_code(c, r, TW_OUTPUTS);
+	enum tw_code code = ready_code(c, NULL, r, TW_OUTPUTS);
 	if (code == TW_ACCEPTED)
 		r->hold = hold;
 	return code;
@@ -513,17 +568,18 @@ enum tw_code c_release(const struct tw_chart *c, struct tw_run *r)
 	return turn(c, r, 0);
 }
 
-/* A cycle of a chart and a run that passed those tests: 11, then paragraphs 1 to 6; with no reasons for a null. */
-static inline enum tw_code advance(const struct tw_chart *c, struct tw_run *r, uint32_t clock, uint32_t inputs, int32_t *outputs, uint64_t *taken,
-	uint8_t *reasons)
+/* A cycle of a chart, an index and a run that passed those tests: 11, then paragraphs 1 to 6; with no reasons for a null, and all transitions looked
+   at for a null in the index's place. Each of its four callers has it for itself, with the nulls known. */
+static inline __attribute__((always_inline)) enum tw_code advance(const struct tw_chart *c, const struct tw_index *x, struct tw_run *r, uint32_t clock,
+	uint32_t inputs, int32_t *outputs, uint64_t *taken, uint8_t *reasons)
 {
 	uint32_t elapsed = clock - r->clock;
 	if (elapsed > TW_LATEST)
 		return TW_TOO_LATE;
-	grow(r->counters, r->active, elapsed);
-	grow(r->timers, r->latched, elapsed);
+	uint64_t leaving = grow(r->counters, r->active, elapsed, x ? x->leaving : NULL);
+	grow(r->timers, r->latched, elapsed, NULL);
 	uint64_t signals = inputs | r->activity << 32;
-	struct moves m = choose(c, r, signals, reasons);
+	struct moves m = x ? choose_from(c, r, signals, leaving, reasons) : choose(c, r, signals, reasons);
 	/* In edition 1 no target stayed, so that all are entered. */
 	uint64_t stayed = r->active & ~m.left, entered = m.targets & ~stayed;
 	r->active = stayed | m.targets;
@@ -543,34 +599,36 @@ static enum tw_code stand(const struct tw_chart *c, struct tw_run *r, uint32_t c
 	uint32_t elapsed = clock - r->clock;
 	if (elapsed > TW_LATEST)
 		return TW_TOO_LATE;
-	grow(r->timers, r->latched, elapsed);
+	grow(r->timers, r->latched, elapsed, NULL);
 	settle_after(c, r, 0, 0, outputs);
 	r->clock = clock;
 	return TW_ACCEPTED;
 }
 
-enum tw_code c_cycle(const struct tw_chart *c, struct tw_run *r, uint32_t clock, uint32_t inputs, int32_t *outputs, size_t lent, uint64_t *taken,
-	uint8_t reasons[TW_TRANSITIONS])
+/* A cycle and a shift, with an index or a null in its place. */
+static inline __attribute__((always_inline)) enum tw_code cycle(const struct tw_chart *c, const struct tw_index *x, struct tw_run *r, uint32_t clock,
+	uint32_t inputs, int32_t *outputs, size_t lent, uint64_t *taken, uint8_t reasons[TW_TRANSITIONS])
 {
 	*taken = 0;
 	memset(reasons, 0, TW_TRANSITIONS);
-	enum tw_code code = ready_code(c, r, lent);
+	enum tw_code code = ready_code(c, x, r, lent);
 	if (code)
 		return code;
 	if (!r->hold)
-		return advance(c, r, clock, inputs, outputs, taken, reasons);
+		return advance(c, x, r, clock, inputs, outputs, taken, reasons);
 	code = stand(c, r, clock, outputs);
 	if (code == TW_ACCEPTED)
 		memset(reasons, TW_HOLD, c->transitions);
 	return code;
 }
 
-enum tw_code c_shift(const struct tw_chart *c, struct tw_run *r, const uint32_t *clocks, size_t nclocks, const uint32_t *inputs, size_t ninputs,
-	uint64_t *words, size_t nwords, int32_t *outputs, size_t lent, size_t *accepted)
+static inline __attribute__((always_inline)) enum tw_code shift(const struct tw_chart *c, const struct tw_index *x, struct tw_run *r,
+	const uint32_t *clocks, size_t nclocks, const uint32_t *inputs, size_t ninputs, uint64_t *words, size_t nwords, int32_t *outputs, size_t lent,
+	size_t *accepted)
 {
 	uint64_t taken;
 	*accepted = 0;
-	enum tw_code code = ready_code(c, r, lent);
+	enum tw_code code = ready_code(c, x, r, lent);
 	if (code)
 		return code;
 	if (nclocks != ninputs || nclocks != nwords || nclocks > TW_SHIFT)
@@ -581,9 +639,33 @@ enum tw_code c_shift(const struct tw_chart *c, struct tw_run *r, const uint32_t 
 		for (; k < nclocks && !(code = stand(c, r, clocks[k], outputs)); k++)
 			words[k] = r->activity;
 	} else {
-		for (; k < nclocks && !(code = advance(c, r, clocks[k], inputs[k], outputs, &taken, NULL)); k++)
+		for (; k < nclocks && !(code = advance(c, x, r, clocks[k], inputs[k], outputs, &taken, NULL)); k++)
 			words[k] = r->activity;
 	}
 	*accepted = k;
 	return code;
+}
+
+enum tw_code c_cycle(const struct tw_chart *c, struct tw_run *r, uint32_t clock, uint32_t inputs, int32_t *outputs, size_t lent, uint64_t *taken,
+	uint8_t reasons[TW_TRANSITIONS])
+{
+	return cycle(c, NULL, r, clock, inputs, outputs, lent, taken, reasons);
+}
+
+enum tw_code c_cycle_by(const struct tw_chart *c, const struct tw_index *x, struct tw_run *r, uint32_t clock, uint32_t inputs, int32_t *outputs,
+	size_t lent, uint64_t *taken, uint8_t reasons[TW_TRANSITIONS])
+{
+	return cycle(c, x, r, clock, inputs, outputs, lent, taken, reasons);
+}
+
+enum tw_code c_shift(const struct tw_chart *c, struct tw_run *r, const uint32_t *clocks, size_t nclocks, const uint32_t *inputs, size_t ninputs,
+	uint64_t *words, size_t nwords, int32_t *outputs, size_t lent, size_t *accepted)
+{
+	return shift(c, NULL, r, clocks, nclocks, inputs, ninputs, words, nwords, outputs, lent, accepted);
+}
+
+enum tw_code c_shift_by(const struct tw_chart *c, const struct tw_index *x, struct tw_run *r, const uint32_t *clocks, size_t nclocks,
+	const uint32_t *inputs, size_t ninputs, uint64_t *words, size_t nwords, int32_t *outputs, size_t lent, size_t *accepted)
+{
+	return shift(c, x, r, clocks, nclocks, inputs, ninputs, words, nwords, outputs, lent, accepted);
 }

@@ -15,5 +15,10 @@ enum tw_code c_hold(const struct tw_chart *chart, struct tw_run *run);
 enum tw_code c_release(const struct tw_chart *chart, struct tw_run *run);
 enum tw_code c_shift(const struct tw_chart *chart, struct tw_run *run, const uint32_t *clocks, size_t nclocks, const uint32_t *inputs,
 	size_t ninputs, uint64_t *activities, size_t nactivities, int32_t *outputs, size_t lent, size_t *accepted);
+enum tw_code c_index(const struct tw_chart *chart, struct tw_index *index);
+enum tw_code c_cycle_by(const struct tw_chart *chart, const struct tw_index *index, struct tw_run *run, uint32_t clock, uint32_t inputs,
+	int32_t *outputs, size_t lent, uint64_t *taken, uint8_t reasons[TW_TRANSITIONS]);
+enum tw_code c_shift_by(const struct tw_chart *chart, const struct tw_index *index, struct tw_run *run, const uint32_t *clocks, size_t nclocks,
+	const uint32_t *inputs, size_t ninputs, uint64_t *activities, size_t nactivities, int32_t *outputs, size_t lent, size_t *accepted);
 
 #endif
