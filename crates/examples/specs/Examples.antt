@@ -21,6 +21,8 @@ use Rattle.reader.specs.Bodies.{bodyAt}
 use Rattle.reader.specs.Reading.{readFrom, readChart}
 use Rattle.reader.proofs.reading.Examples.{chartA}
 use Rattle.choice.specs.Choice.{reason, chosen, reasonsOf}
+use Rattle.index.specs.Building.{indexOf, builtOf}
+use Rattle.index.specs.Consulting.{consulted}
 use Rattle.acting.specs.Acting.{request, ripens, asked, acted}
 use Rattle.acting.specs.declared.Steps.{Steps}
 use Rattle.run.specs.Run.{counter}
@@ -29,7 +31,7 @@ use Rattle.passes.specs.Time.{elapsed}
 use Rattle.passes.specs.Choosing.{stepsOf}
 use Rattle.passes.specs.Moving.{signalsOf, marksOf}
 use Rattle.passes.specs.Outputs.{first, outputsOf}
-use Rattle.cycle.specs.Cycling.{startOf, countsAt, choiceOf, cycleOf, outputsAfter}
+use Rattle.cycle.specs.Cycling.{startOf, countsAt, choiceOf, cycleOf, cycleBy, outputsAfter}
 use Rattle.cycle.specs.declared.cycling.Cycled.{Cycled}
 use Rattle.cycle.specs.Calling.{singly}
 use Rattle.key.specs.Turning.{marked, turnOf}
@@ -272,6 +274,44 @@ editions = record {
   held-zero = refl;
   held-three = refl;
   held-none = refl;
+}
+
+-- document 02, request (ix): chart A's index as README.md has it, and the fork's; a cycle by an index that is not exactly that
+abbrev indexed : List ℕ → ℕ → List ℕ
+indexed words zeros = words ++ replicate zeros 0
+
+abbrev byIndex : List ℕ → Cycled
+byIndex index = cycleBy a index (began a 1000) 1010 1 32
+
+pub record Indexed : Type 0 where
+  pub of-a : builtOf a .leaving ≡ indexed (1 ∷ 2 ∷ []) 62
+  pub of-the-fork : builtOf fork .leaving ≡ indexed (1 ∷ []) 63
+  pub of-no-chart : builtOf noChart ≡ record { code = 5; leaving = replicate 64 0 }
+  pub consults-one : consulted 2 (indexed (1 ∷ 2 ∷ []) 62) 1 ≡ 1
+  pub consults-all : consulted 2 [] 1 ≡ 3
+  pub taken : byIndex (indexed (1 ∷ 2 ∷ []) 62) .taken ≡ 1
+  pub why : byIndex (indexed (1 ∷ 2 ∷ []) 62) .reasons ≡ reasonsFrom (0 ∷ 1 ∷ []) 62
+  pub left-out : byIndex (indexed (1 ∷ []) 63) .code ≡ 20
+  pub no-source : byIndex (indexed (1 ∷ 3 ∷ []) 62) .code ≡ 20
+  pub no-transition : byIndex (indexed (1 ∷ 6 ∷ []) 62) .code ≡ 20
+  pub no-step : byIndex (indexed (1 ∷ 2 ∷ 1 ∷ []) 61) .code ≡ 20
+  pub of-targets : byIndex (indexed (2 ∷ 1 ∷ []) 62) .code ≡ 20
+
+pub indexes : Indexed
+unfolding chartA all some summed firstCode tableFrom turns collect recordNumber transitionCode bodyAt stepsCode actionsCode transitionsCode blocksCode casesCode someInitial timedFor timedTwice heldCode readFrom reason chosen reasonsOf marksOf initialSet asked acted indexOf consulted
+indexes = record {
+  of-a = refl;
+  of-the-fork = refl;
+  of-no-chart = refl;
+  consults-one = refl;
+  consults-all = refl;
+  taken = refl;
+  why = refl;
+  left-out = refl;
+  no-source = refl;
+  no-transition = refl;
+  no-step = refl;
+  of-targets = refl;
 }
 
 -- idle (initial), pressurising, venting, recording, recorded: docs/ASSESSOR.md weighs this chart by hand
