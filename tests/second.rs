@@ -761,17 +761,39 @@ fn cycle(held: &Held, run: &Run, clock: u32, inputs: u32, outputs: &mut [i32]) -
 // "One cycle", 1 to 6, without hold, in both editions of request (viii). "The run keeps the clock
 // reading and the activity."
 fn do_cycle(chart: &Chart, given: &Run, clock: u32, inputs: u32, outputs: &mut [i32]) -> Answer {
-    let mut run = given.clone();
+    let run = grown_run(given, clock);
     let signals = signals_of(inputs, &given.activity);
-    grow(&mut run.step_counters, &given.active, elapsed(clock, given.clock));
-    grow(&mut run.action_timers, &given.latched, elapsed(clock, given.clock));
     let taken = take_transitions(chart, &run, &signals);
     let reasons = reasons_of(chart, &run, &signals);
+    do_chosen(chart, run, &signals, (taken, reasons), clock, outputs)
+}
+
+// "Every step counter of an active step and every timer of a latched action grows by it, stopping
+// at 86,400,000." (by the elapsed time; all else is as the run was given)
+fn grown_run(given: &Run, clock: u32) -> Run {
+    let mut run = given.clone();
+    grow(&mut run.step_counters, &given.active, elapsed(clock, given.clock));
+    grow(&mut run.action_timers, &given.latched, elapsed(clock, given.clock));
+    run
+}
+
+// "Sources of taken transitions are left, targets entered."; "The run keeps the clock reading and
+// the activity."; "The answer also carries the set of transitions taken" ("One cycle", 3 to 6, once
+// the transitions and the reasons of request (vi) are chosen; the run has grown, and its active
+// steps are still those of the cycle's beginning)
+fn do_chosen(
+    chart: &Chart,
+    mut run: Run,
+    signals: &Set,
+    (taken, reasons): (Set, Vec<u8>),
+    clock: u32,
+    outputs: &mut [i32],
+) -> Answer {
     let left = sources_of(chart, &taken);
     let targets = targets_of(chart, &taken);
-    let entered = entered_steps(chart, &given.active, &left, &targets);
+    let entered = entered_steps(chart, &run.active, &left, &targets);
     move_steps(&mut run, &left, &targets, &entered);
-    mark_cases(chart, &mut run, &left, &signals);
+    mark_cases(chart, &mut run, &left, signals);
     do_actions(chart, &mut run, &entered, &left);
     write_outputs(chart, &run.activity, outputs);
     run.clock = clock;
@@ -6053,22 +6075,12 @@ fn do_cycle_leaving(
     (clock, inputs): (u32, u32),
     outputs: &mut [i32],
 ) -> Answer {
-    let mut run = given.clone();
+    let run = grown_run(given, clock);
     let signals = signals_of(inputs, &given.activity);
-    grow(&mut run.step_counters, &given.active, elapsed(clock, given.clock));
-    grow(&mut run.action_timers, &given.latched, elapsed(clock, given.clock));
     let consulted = leaving_some(index, &given.active);
     let taken = take_consulted(chart, &consulted, &run, &signals);
     let reasons = reasons_consulted(chart, &consulted, &run, &signals);
-    let left = sources_of(chart, &taken);
-    let targets = targets_of(chart, &taken);
-    let entered = entered_steps(chart, &given.active, &left, &targets);
-    move_steps(&mut run, &left, &targets, &entered);
-    mark_cases(chart, &mut run, &left, &signals);
-    do_actions(chart, &mut run, &entered, &left);
-    write_outputs(chart, &run.activity, outputs);
-    run.clock = clock;
-    Answer { code: 0, taken, reasons, run }
+    do_chosen(chart, run, &signals, (taken, reasons), clock, outputs)
 }
 
 // The same with its tests and, under hold, as there: no transition is consulted at all.
