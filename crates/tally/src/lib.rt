@@ -9,3 +9,4 @@ pub use tallying::tally_on;
 pub use weighing::Weighed;
 pub use weighing::weigh;
 pub use weighing::weigh_on;
+pub use weighing::weight_in;

@@ -2,7 +2,6 @@
 ghost use mathlib.Core.Path.{_≡_};
 ghost use mathlib.Core.Bool.{cond};
 ghost use Prim.Native.Nat.{_+_, _≤_};
-ghost use lib.ListN.{length};
 ghost use Rattle.chart.specs.Chart.{chartOf};
 ghost use Rattle.tally.specs.Weighing.{weightIn, unbalanced, refused, weighOf};
 use crate::codes::UNBALANCED;
@@ -33,13 +32,14 @@ fn added(sum: u32, member: bool, weight: u16) -> u32
     if member { sum + weight as u32 } else { sum }
 }
 
-fn weight_in(set: u64, weights: &[u16]) -> u32
-    requires { ⌜ length (now weights) ≤ 64 ⌝ }
+// What the steps of a set weigh together: there are 64 at most, whatever the list.
+pub fn weight_in(set: u64, weights: &[u16]) -> u32
     ensures { λ r. ⌜ r ≡ weightIn (now (weights .entry)) set ⌝ }
 {
+    let last = chart::at_most(64, weights.len());
     let mut sum = 0u32;
     let mut k = 0;
-    while k < weights.len() {
+    while k < last {
         sum = added(sum, sets::is_in(set, k), weights[k]);
         k += 1;
     }
@@ -53,7 +53,7 @@ fn unbalanced<'a>(
     targets: &'a [u64; 64],
     weights: &'a [u16],
 ) -> usize
-    requires { ⌜ (n ≤ 64) × (length (now weights) ≤ 64) ⌝ }
+    requires { ⌜ n ≤ 64 ⌝ }
     ensures { λ r. ⌜ r ≡ unbalanced n (now (sources .entry)) (now (targets .entry)) (now (weights .entry)) ⌝ }
 {
     let mut t = 0;

@@ -1,14 +1,15 @@
 -- The sum over a list of weights, the first unbalanced transition, and the tests in their order.
-use Prim.Native.Nat.{ℕ, _+_, _-_, _≤_}
+use Prim.Native.Nat.{ℕ, suc, _+_, _-_, _≤_, min}
 use mathlib.Core.Bool.{Bool, true, false, cond}
 use mathlib.Core.List.{List}
-use mathlib.Core.Path.{_≡_, refl, sym, ap, _∙_}
+use mathlib.Core.Path.{_≡_, refl, sym, _∙_}
 use native.Mathlib.Omega.{arith}
 use borrow.Author.Tests.{eq-eqb, ne-eqb}
 use lib.ListN.{length, getD, List·getD-eq-default}
 use Rattle.sets.specs.Loops.{summed}
 use Rattle.sets.specs.Sets.{has}
-use Rattle.sets.proofs.Counts.{summed-more, summed-turn}
+use Rattle.sets.proofs.Counts.{summed-turn}
+use Rattle.sets.proofs.Loops.{capped}
 use Rattle.fields.specs.Fields.{unless}
 use Rattle.chart.specs.Held.{chartCode}
 use Rattle.chart.specs.declared.chart.Chart.{Chart}
@@ -32,13 +33,13 @@ beyond weights s k l = rw (List·getD-eq-default weights 0 l) (either (has s k) 
     either true n = refl
     either false n = refl
 
--- the sum over the list is the sum over all 64 steps
-pub weight-end : (weights : List ℕ) (s k : ℕ) {sum : ℕ} → length weights ≤ 64 → sum ≡ summed (weightAt weights s) k → k ≤ length weights → length weights ≤ k → sum ≡ weightIn weights s
-unfolding weightIn
-weight-end weights s k h e a b = e ∙ sym (ap (λ m. summed (weightAt weights s) m) full ∙ summed-more (weightAt weights s) k (64 - k) (λ j l m. beyond weights s j (omega arith)))
+-- the sum over the list, or over the first 64 of it, is the sum over all 64 steps
+pub weight-end : (weights : List ℕ) (s k : ℕ) {sum : ℕ} → sum ≡ summed (weightAt weights s) k → k ≡ min 64 (length weights) → sum ≡ weightIn weights s
+unfolding weightIn summed
+weight-end weights s k e h = e ∙ rw h (capped (summed (weightAt weights s)) (length weights) 64 (λ j l. more j (beyond weights s j l)))
   where
-    full : 64 ≡ k + (64 - k)
-    full = omega arith
+    more : (j : ℕ) → weightAt weights s j ≡ 0 → summed (weightAt weights s) (suc j) ≡ summed (weightAt weights s) j
+    more j z = rw z (omega arith)
 
 -- one more than the number of transition t if it is unbalanced
 abbrev pub codeAt : List ℕ → List ℕ → List ℕ → ℕ → ℕ

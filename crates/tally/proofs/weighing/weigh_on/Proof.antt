@@ -1,7 +1,5 @@
--- The tests in their order; a sound chart has 64 steps and 64 transitions at most.
+-- The tests in their order; a sound chart has 64 transitions at most.
 use mathlib.Core.Path.{_≡_, sym, _∙_}
-use Prim.Native.Nat.{_≤_}
-use native.Mathlib.Omega.{arith}
 use lib.ListN.{length}
 use denote.Ref.{now}
 use borrow.Author.Needs.{needs}
@@ -32,9 +30,6 @@ chart-sound c = sound (chart (call c)) (chart-zero (c .before))
 as-many : (c : tie.Else2) → length (now (call c .args .weights)) ≡ call c .args .steps
 as-many c = c .if2 .left
 
-few : (c : tie.Else2) → length (now (call c .args .weights)) ≤ 64
-few c = let e = as-many c in let h = chart-sound c .limits .steps in omega (arith, e, h)
-
 abbrev passed : tie.Else3 → tie.Else2
 passed c = c .before .before
 
@@ -62,7 +57,7 @@ returns-2 c =
     weights-refused (chart s) (now (s .args .weights)) (c .refused2 .result) (chart-zero held) (c .before .if2 .taken) (c .refused2 .ensures)
 
 unbalanced-requires : tie.Need-unbalanced-requires
-unbalanced-requires c κs = (chart-sound c .limits .transitions, few c)
+unbalanced-requires c κs = chart-sound c .limits .transitions
 
 sub-refused : tie.Need-sub-refused
 sub-refused c = search needs
@@ -80,7 +75,7 @@ initial-of-requires : tie.Need-initial-of-requires
 initial-of-requires c κs = search needs
 
 weight-in-requires : tie.Need-weight-in-requires
-weight-in-requires c κs = few (passed (c .before))
+weight-in-requires c κs = search needs
 
 returns-4 : tie.Need-returns-4
 returns-4 c =

@@ -1,8 +1,8 @@
 -- The sum of what is passed, each step adding 65535 at most.
 use Prim.Native.Nat.{_-_, _*_, _≤_}
-use mathlib.Core.Path.{_≡_}
+use mathlib.Core.Path.{_≡_, _∙_}
+use native.Mathlib.Nat.{le-antisymm}
 use native.Mathlib.Omega.{arith}
-use lib.ListN.{length}
 use denote.Ref.{now}
 use borrow.Author.Needs.{needs}
 use Rattle.sets.specs.Loops.{summed}
@@ -12,10 +12,13 @@ use Rattle.tally.proofs.weighing.weight_in.Statement.{statement}
 use Rattle.tally.proofs.weighing.weight_in.Tie as tie
 
 abbrev Inv-loop : tie.InvT-loop
-Inv-loop set weights sum₀ k₀ sum k = (sum ≡ summed (weightAt weights set) k) × (k ≤ length weights) × (sum ≤ 65535 * k)
+Inv-loop set weights last sum₀ k₀ sum k = (sum ≡ summed (weightAt weights set) k) × (k ≤ last) × (sum ≤ 65535 * k)
 
 abbrev μ-loop : tie.MeasureT-loop
-μ-loop set weights sum₀ k₀ sum k = length weights - k
+μ-loop set weights last sum₀ k₀ sum k = last - k
+
+at-most-requires : tie.Need-at-most-requires Inv-loop μ-loop
+at-most-requires c κs = search needs
 
 loop-holds : tie.Need-loop-holds Inv-loop μ-loop
 loop-holds c = (summed-start _, omega arith, omega arith)
@@ -41,14 +44,14 @@ loop-less c = omega arith
 loop-again : tie.Need-loop-again Inv-loop μ-loop
 loop-again c =
     let turn = c .before .before .before .before in
-    let a = turn .before .before .args in
+    let a = turn .before .before .before .args in
     let l = turn .loop in
     (weight-turn (now (a .weights)) (a .set) (l .k) (l .inv .0) (c .before .before .is-in .ensures) (c .added .ensures .0), omega arith, omega arith)
 
 returns : tie.Need-returns Inv-loop μ-loop
 returns c =
     let l = c .before .loop in
-    weight-end _ _ (l .k) (c .before .before .before .pre) (l .inv .0) (l .inv .1) (c .loop-test .left)
+    weight-end _ _ (l .k) (l .inv .0) (le-antisymm (l .inv .1) (c .loop-test .left) ∙ c .before .before .at-most .ensures)
 
 pub weight-in-spec : {M : Type 1} → statement M
 weight-in-spec =
@@ -56,6 +59,7 @@ weight-in-spec =
     (tie.spec
     Inv-loop
     μ-loop
+    at-most-requires
     loop-holds
     is-in-requires
     mul-added
