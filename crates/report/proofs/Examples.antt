@@ -15,16 +15,12 @@ use Rattle.choice.specs.Choice.{reason, chosen, reasonsOf}
 use Rattle.acting.specs.Acting.{asked, acted}
 use Rattle.passes.specs.Moving.{marksOf}
 use Rattle.trace.specs.Tracing.{callAt}
-use Rattle.report.specs.Lines.{text, hex, decimalFrom, decimal, acceptedLine, refusedLine, reasonsLine, chartLine, traceLine, tallyLine}
+use Rattle.lines.specs.Lines.{text, hex, decimalFrom}
+use Rattle.report.specs.Wording.{acceptedLine, refusedLine, reasonsLine, traceLine, tallyLine}
 use Rattle.report.specs.Printing.{printedFrom, printedRun}
 
--- "0 to 9, then a to f"; no zero in front of a decimal number
-digits : hex 16 81985529216486895 ++ decimal 0 ++ decimal 10 ++ decimal 18446744073709551615 ≡ text "0123456789abcdef01018446744073709551615"
-unfolding hex decimalFrom
-digits = refl
-
-refused-lines : chartLine 10 ++ refusedLine 3 11 ++ traceLine ≡ text "refused chart 10\n3 refused 11\nrefused trace 16\n"
-unfolding chartLine refusedLine traceLine decimalFrom
+refused-lines : refusedLine 3 11 ++ traceLine ≡ text "3 refused 11\nrefused trace 16\n"
+unfolding refusedLine traceLine decimalFrom
 refused-lines = refl
 
 -- a digit for each transition, and an empty line where there is none

@@ -17,7 +17,8 @@ use Rattle.trace.specs.declared.tracing.Call.{Call}
 use Rattle.trace.specs.declared.tracing.Call.the-variants.{Start, Cycle, End, Refused}
 use Rattle.tally.specs.Tallying.{tallyOf}
 use Rattle.tally.specs.declared.tallying.Tallied.{Tallied}
-use Rattle.report.specs.Lines.{acceptedLine, refusedLine, reasonsLine, chartLine, traceLine, tallyLine}
+use Rattle.lines.specs.Lines.{chartLine}
+use Rattle.report.specs.Wording.{acceptedLine, refusedLine, reasonsLine, traceLine, tallyLine}
 use Rattle.report.specs.declared.printing.Standing.{Standing}
 use Rattle.report.specs.declared.printing.Printed.{Printed}
 

@@ -6,8 +6,8 @@ ghost use lib.ListN.{length, getD};
 ghost use Rattle.sets.specs.Bytes.{Put};
 ghost use Rattle.trace.specs.Tracing.{callAt};
 ghost use Rattle.report.specs.Printing.{callLine, lineOf, secondLine, closingLine, numberAt, opening, unmoved, stepped, Prints, lineFor, standingFor, printedOf, lineAfter};
-use crate::lines;
-use crate::lines::LINE;
+use crate::wording;
+use crate::wording::LINE;
 use chart::Chart;
 use cycle::Cycled;
 use run::Run;
@@ -57,9 +57,9 @@ fn call_line(
     ensures { λ r. ⌜ Put (now (line .entry)) 0 (callLine number code active activity taken) (now (line .exit)) r × (r ≤ 64) ⌝ }
 {
     if code != 0 {
-        return lines::refused_line(line, number, code);
+        return wording::refused_line(line, number, code);
     }
-    lines::accepted_line(line, number, active, activity, taken)
+    wording::accepted_line(line, number, active, activity, taken)
 }
 
 // A cycle's line, and behind it the reasons, if it was accepted and took nothing (document 02, request vi).
@@ -70,7 +70,7 @@ fn cycle_lines(line: &mut [u8], number: u64, transitions: usize, o: Cycled) -> u
     let run = o.run;
     let length = call_line(line, number, o.code, run.active, run.activity, o.taken);
     if (o.code == 0) & (o.taken == 0) {
-        return lines::reasons_line(line, length, transitions, &o.reasons);
+        return wording::reasons_line(line, length, transitions, &o.reasons);
     }
     length
 }
@@ -80,9 +80,9 @@ fn closing_line(line: &mut [u8], number: u64, t: Tallied) -> usize
     ensures { λ r. ⌜ Put (now (line .entry)) 0 (closingLine number t) (now (line .exit)) r × (r ≤ 129) ⌝ }
 {
     if t.code != 0 {
-        return lines::refused_line(line, number, t.code);
+        return wording::refused_line(line, number, t.code);
     }
-    lines::tally_line(line, t.passed, t.failed, t.notrun)
+    wording::tally_line(line, t.passed, t.failed, t.notrun)
 }
 
 fn unmoved(standing: Standing) -> Printed
@@ -129,7 +129,7 @@ fn print_call(chart: Chart, trace: &[u8], at: usize, run: Run, line: &mut [u8]) 
             stepped(length, true, at, run)
         }
         Call::Refused => {
-            let length = lines::trace_line(line);
+            let length = wording::trace_line(line);
             stepped(length, true, at, run)
         }
     }
@@ -155,7 +155,7 @@ pub fn print_next(
     let at = standing.at;
     let run = standing.run;
     if code != 0 {
-        let length = lines::chart_line(line, code);
+        let length = lines::chart_line(line, 0, code);
         return stepped(length, true, at, run);
     }
     print_call(chart, trace, at, run, line)

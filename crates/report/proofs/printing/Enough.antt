@@ -20,7 +20,7 @@ use Rattle.trace.specs.Tracing.{bodyDue, recordFits, callAt}
 use Rattle.trace.specs.declared.tracing.Call.{Call}
 use Rattle.trace.specs.declared.tracing.Call.the-variants.{Start, Cycle, End, Refused}
 use Rattle.trace.proofs.tracing.Laws.{due, after-start, after-cycle}
-use Rattle.report.specs.Lines.{chartLine}
+use Rattle.lines.specs.Lines.{chartLine}
 use Rattle.report.specs.Printing.{lineOf, cycleLines, printedAt, printedFrom, printedRun}
 use Rattle.report.proofs.printing.Laws.{one-printed}
 

@@ -23,11 +23,12 @@ use Rattle.trace.specs.declared.tracing.Call.the-variants.{Start, Cycle, End, R
 use Rattle.trace.proofs.tracing.Laws.{start-there, cycle-there}
 use Rattle.tally.specs.Tallying.{tallyOf}
 use Rattle.tally.specs.declared.tallying.Tallied.{Tallied}
-use Rattle.report.specs.Lines.{reasonsLine, chartLine, traceLine}
+use Rattle.lines.specs.Lines.{chartLine}
+use Rattle.report.specs.Wording.{reasonsLine, traceLine}
 use Rattle.report.specs.Printing.{lineOf, secondLine, cycleLines, closingLine, printedAt, printedFrom, numberAt, stepped, unmoved, lineFor, standingFor, Prints, nextLine, nextStanding, printedOf, lineAfter}
 use Rattle.report.specs.declared.printing.Standing.{Standing}
 use Rattle.report.specs.declared.printing.Printed.{Printed}
-use Rattle.report.proofs.lines.Laws.{reasons-length}
+use Rattle.report.proofs.wording.Laws.{reasons-length}
 
 -- what is printed from a place on begins with what stands there
 pub one-printed : (more : ℕ) (c : Chart) (s : List ℕ) (n at : ℕ) (run : Run) (x : Call) → callAt s at ≡ x → printedFrom (suc more) c s n at run ≡ printedAt c n at run x (printedFrom more c s (n + 1))

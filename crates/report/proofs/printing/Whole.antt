@@ -23,7 +23,8 @@ use Rattle.trace.specs.declared.tracing.Call.{Call}
 use Rattle.trace.specs.declared.tracing.Call.the-variants.{Start, Cycle, End, Refused}
 use Rattle.trace.proofs.tracing.Laws.{after-start, after-cycle}
 use Rattle.tally.specs.Tallying.{tallyOf}
-use Rattle.report.specs.Lines.{chartLine, traceLine, tallyLine}
+use Rattle.lines.specs.Lines.{chartLine}
+use Rattle.report.specs.Wording.{traceLine, tallyLine}
 use Rattle.report.specs.Printing.{lineOf, cycleLines, closingLine, printedAt, printedFrom, printedRun, numberAt, opening, lineFor, standingFor, nextLine, nextStanding, standingAfter, linesOf}
 use Rattle.report.specs.declared.printing.Standing.{Standing}
 use Rattle.report.proofs.printing.Laws.{one-printed}

@@ -1,8 +1,12 @@
 -- Branch by branch, by the law of each.
+use Prim.Native.Nat.{_≤_}
 use denote.Ref.{now}
 use mathlib.Core.Path.{refl}
 use native.Mathlib.Omega.{arith}
+use lib.ListN.{length}
 use borrow.Author.Needs.{needs}
+use Rattle.lines.specs.Lines.{chartLine}
+use Rattle.lines.proofs.Laws.{chart-short, no-line, line-on}
 use Rattle.report.proofs.printing.Laws.{too-small, is-done, chart-prints, call-prints}
 use Rattle.report.proofs.printing.print_next.Statement.{statement}
 use Rattle.report.proofs.printing.print_next.Tie as tie
@@ -38,7 +42,9 @@ returns-3 : tie.Need-returns-3
 returns-3 c =
     let a = c .before .before .before .before .before .before .before .before .before .before .before .args in
     let n = c .before .before .before .chart-line in
-    let r = chart-prints (a .code) (a .chart) (now (a .trace)) (a .standing) (now (a .line)) (n .last .0) (c .stepped .result) (n .result) (omega arith) (c .before .before .before .before .before .before .before .if2 .left) (c .before .before .before .before .before .if3 .taken) (n .ensures .0) (n .ensures .1) (c .stepped .ensures) in
+    let h : 129 ≤ length (now (a .line)) = omega arith in
+    let l = line-on (no-line (now (a .line))) 35 (chartLine (a .code)) (n .ensures) (chart-short (a .code)) (omega arith) in
+    let r = chart-prints (a .code) (a .chart) (now (a .trace)) (a .standing) (now (a .line)) (n .last .0) (c .stepped .result) (n .result) h (c .before .before .before .before .before .before .before .if2 .left) (c .before .before .before .before .before .if3 .taken) (l .put) (omega (arith, l .within)) (c .stepped .ensures) in
     (r .answer, r .content, r .within)
 
 print-call-requires : tie.Need-print-call-requires
