@@ -5,8 +5,8 @@ use borrow.Author.Needs.{needs}
 use Rattle.bench_run.proofs.bench.Statement.{statement}
 use Rattle.bench_run.proofs.bench.Tie as tie
 
-read-file-requires : tie.Need-read-file-requires
-read-file-requires c κs = search needs
+read-chart-file-requires : tie.Need-read-chart-file-requires
+read-chart-file-requires c κs = search needs
 
 slice-reshare-prefix-read-chart : tie.Need-slice-reshare-prefix-read-chart
 slice-reshare-prefix-read-chart c = search needs
@@ -45,7 +45,7 @@ pub bench-spec : {M : Type 1} → statement M
 bench-spec =
     tie.close
     (tie.spec
-    read-file-requires
+    read-chart-file-requires
     slice-reshare-prefix-read-chart
     slice-aggregate-read-chart
     read-chart-requires
