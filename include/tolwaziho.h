@@ -49,7 +49,8 @@ enum tw_code {
 	TW_BAD_TRACE = 16,	/* a bad record in a trace: for printed runs, no call below gives it */
 	TW_TOO_FEW_BYTES = 17,	/* fewer bytes lent than the chart's file takes */
 	TW_UNEVEN_LISTS = 18,	/* a shift's lists differ in length, or are longer than 4,096 */
-	TW_OTHER_INDEX = 20	/* an index that is not exactly that of this chart */
+	TW_OTHER_INDEX = 20,	/* an index that is not exactly that of this chart */
+	TW_SUM_TOO_LARGE = 21	/* two weights of a step are more than 65,535 together */
 };
 
 /* Why a transition was not taken in a cycle; the first in this order counts. README.md says what to look at. */
@@ -160,6 +161,12 @@ struct tw_weighed {
 /* Weighs steps, a weight for each. Accepted: each transition's sources weigh as much as its targets, and the total is that of the initial steps.
    Refused by the chart's numbers, 13, 14: total 0. The transition is the first unbalanced one for 14, otherwise 0. */
 enum tw_code tw_weigh(const struct tw_chart *chart, const uint16_t *weights, size_t nweights, struct tw_weighed *weighed);
+
+/* Adds two weighings, step by step, into a third lent list. Accepted: sum[k] is first[k] + second[k], for every step. Refused by the chart's numbers,
+   13 if any of the three lengths is not the number of steps, 21: nothing is written. The step is the first whose sum is above 65,535 for 21, otherwise
+   0. */
+enum tw_code tw_add(const struct tw_chart *chart, const uint16_t *first, size_t nfirst, const uint16_t *second, size_t nsecond, uint16_t *sum,
+	size_t nsum, size_t *step);
 
 /* Where a tool that takes the reader by itself stands in a file: the next record's place, and the kind before it. It begins with zeros. */
 struct tw_reader {

@@ -39,6 +39,8 @@ uint8_t tolwaziho_index(uint8_t held, size_t transitions, const uint64_t sources
 uint8_t tolwaziho_tally(CHART, uint32_t clock, uint64_t active, uint64_t activity, uint64_t stored, uint64_t latched,
 	const uint32_t counters[64], const uint32_t timers[32], uint64_t good, uint64_t bad, uint8_t hold, size_t *passed, size_t *failed, size_t *notrun);
 uint8_t tolwaziho_weigh(CHART, const uint16_t *weights, size_t nweights, size_t *transition, uint32_t *total);
+uint8_t tolwaziho_add(uint8_t held, size_t steps, const uint16_t *first, size_t nfirst, const uint16_t *second, size_t nsecond, uint16_t *sum,
+	size_t nsum, size_t *step);
 uint8_t tolwaziho_advance(CHART, RUN, uint32_t new, uint32_t inputs, int32_t *outputs, size_t lent, uint64_t *taken, uint8_t reasons[64]);
 
 #endif

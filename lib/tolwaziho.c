@@ -98,6 +98,13 @@ enum tw_code tw_weigh(const struct tw_chart *chart, const uint16_t *weights, siz
 	return tolwaziho_weigh(CHART_OF(chart), weights, nweights, &weighed->transition, &weighed->total);
 }
 
+/* As tw_index, by the chart's own test. */
+enum tw_code tw_add(const struct tw_chart *chart, const uint16_t *first, size_t nfirst, const uint16_t *second, size_t nsecond, uint16_t *sum,
+	size_t nsum, size_t *step)
+{
+	return tolwaziho_add(tolwaziho_test(CHART_OF(chart)), chart->steps, first, nfirst, second, nsecond, sum, nsum, step);
+}
+
 enum tw_code tw_next_record(const uint8_t *bytes, size_t size, struct tw_reader *reader, struct tw_record *record)
 {
 	return tolwaziho_next_record(bytes, size, &reader->at, &reader->before, &record->kind, &record->place, &record->length);
@@ -132,6 +139,7 @@ const char *tw_name(enum tw_code code)
 	case TW_TOO_FEW_BYTES: return "too few bytes";
 	case TW_UNEVEN_LISTS: return "uneven lists";
 	case TW_OTHER_INDEX: return "other index";
+	case TW_SUM_TOO_LARGE: return "sum too large";
 	}
 	return "unknown";
 }
