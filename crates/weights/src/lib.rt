@@ -1,0 +1,8 @@
+// Weights as text, one a line (docs/DECISIONS.md, "Weights as text").
+pub mod listing;
+pub mod words;
+
+pub use listing::Listed;
+pub use listing::list;
+pub use words::Said;
+pub use words::says;
