@@ -8,18 +8,13 @@
 Short outputs are written out by hand. The long ones come from the plain model of start and cycle in run_cycles.py; nothing here
 gets an expected line from the engine.
 """
-import os
-import shutil
-import subprocess
 import sys
-import tempfile
-from pathlib import Path
 
 sys.dont_write_bytecode = True
 import run_cycles as model  # noqa: E402
+from programs import main  # noqa: E402
 from read_charts import (  # noqa: E402
-    CHART_A, EDITION, END, FULL as FULL_CHART, GO, L, N, ONE, P0, P1, ROOT, TWO, action, block, case, edition, record, second, step, store,
-    transition,
+    CHART_A, EDITION, END, FULL as FULL_CHART, GO, L, N, ONE, P0, P1, TWO, action, block, case, edition, record, second, step, transition,
 )
 from sources import SOURCES, cycle, line, start, trace  # noqa: E402
 
@@ -182,89 +177,10 @@ CASES += [
     ("65,528 bytes and one record more", CHART_A, FULL + cycle(LONG[-1][0]), LONG_LINES + [BAD_TRACE]),
     ("65,528 bytes and one byte more", CHART_A, FULL + b"\0", LONG_LINES + [BAD_TRACE]),
     ("65,528 bytes and 240,000 more", CHART_A, FULL + cycle(LONG[-1][0]) * 20_000, LONG_LINES + [BAD_TRACE]),
+    ("a trace of ten megabytes", CHART_A, FULL.ljust(10_000_000, b"\0"), LONG_LINES + [BAD_TRACE]),
     ("one record fewer", CHART_A, FULL[:-12], LONG_LINES[:-1] + [LONG_TALLY]),
     ("the last record cut", CHART_A, FULL[:-1], LONG_LINES[:-1] + [BAD_TRACE]),
-]
-
-
-CASES += SOURCES
-
-
-def text(lines):
-    return "".join(line + "\n" for line in lines).encode()
-
-
-def command(program, root=ROOT):
-    """tools/run takes a name or a path."""
-    return [root / "tools" / "run", root / program if "/" in program else program]
-
-
-def run(program, folder, trace, output=subprocess.PIPE, root=ROOT, user=None):
-    words = command(program, root)
-    return subprocess.run(words, cwd=folder, input=trace, stdout=output, stderr=subprocess.PIPE, timeout=60, check=False, user=user)
-
-
-def run_case(program, name, chart, trace, lines):
-    with tempfile.TemporaryDirectory() as folder:
-        if chart is not None:
-            (Path(folder) / "chart.bin").write_bytes(chart)
-        done = run(program, folder, trace)
-    expected = text(lines)
-    if done.stdout != expected or done.stderr or done.returncode != 0:
-        sys.exit(f"{program}, {name}: status {done.returncode}, printed {done.stdout[-400:]!r} {done.stderr!r}, expected {expected[-400:]!r}")
-
-
-def run_unreadable(program):
-    """A chart.bin that is there and that its reader may not read. Root may read every file, so there the program runs as nobody, from a copy."""
-    with tempfile.TemporaryDirectory() as folder:
-        os.chmod(folder, 0o755)
-        for part in ["tools/run", program if "/" in program else f"target/bin/{program}"]:
-            (Path(folder) / part).parent.mkdir(parents=True)
-            shutil.copy(ROOT / part, Path(folder) / part)
-        chart = Path(folder) / "chart.bin"
-        user = 65534 if os.geteuid() == 0 else None
-        for mode, expected in [(0o444, text(CASES[0][3])), (0, b"refused chart 1\n")]:
-            chart.unlink(missing_ok=True)
-            chart.write_bytes(CHART_A)
-            chart.chmod(mode)
-            done = run(program, folder, TRACE_A, root=Path(folder), user=user)
-            assert (done.stdout, done.returncode) == (expected, 0), (mode, done.stdout, done.stderr)
-    return 2
-
-
-def run_odd(program):
-    """Files that are far too large, a chart.bin that can't be opened or read, an output that takes nothing: a clear end in each."""
-    odd = 0
-    for make, trace, expected in [
-        (lambda path: path.mkdir(), TRACE_A, b"refused chart 1\n"),
-        (lambda path: path.symlink_to("nowhere"), TRACE_A, b"refused chart 1\n"),
-        (lambda path: path.write_bytes(CHART_A.ljust(10_000_000, b"\0")), TRACE_A, b"refused chart 10\n"),
-        (lambda path: path.write_bytes(CHART_A), FULL.ljust(10_000_000, b"\0"), text(LONG_LINES + [BAD_TRACE])),
-    ]:
-        with tempfile.TemporaryDirectory() as folder:
-            make(Path(folder) / "chart.bin")
-            done = run(program, folder, trace)
-            assert (done.stdout, done.returncode) == (expected, 0), (trace[:8], done.stdout[-200:])
-        odd += 1
-    with tempfile.TemporaryDirectory() as folder:
-        (Path(folder) / "chart.bin").write_bytes(CHART_A)
-        with open("/dev/full", "wb") as full:
-            assert run(program, folder, FULL, full).returncode == 0, "a full device"
-        closed = subprocess.run(["sh", "-c", 'exec "$0" "$@" >&-', *command(program)], cwd=folder, input=FULL, timeout=60, check=False)
-        assert closed.returncode == 0, "a closed output"
-    return odd + 2
-
+] + SOURCES
 
 if __name__ == "__main__":
-    if "--run" in sys.argv[1:]:
-        program = (sys.argv[2:] or ["bench_run"])[0]
-        for shown in CASES:
-            run_case(program, *shown)
-        print(f"{program}: {len(CASES) + run_odd(program) + run_unreadable(program)} runs")
-    else:
-        store({
-            "crates/bench_run/data/chart.bin": CHART_A,
-            "crates/bench_run/stdin": TRACE_A,
-            "crates/bench_run/stdout": text(CASES[0][3]),
-        }, "tests/bench_run.py")
-        print("bench_run: 1 stored run")
+    main("bench_run", CASES, (CHART_A, FULL))
