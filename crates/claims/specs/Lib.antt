@@ -1,3 +1,5 @@
+pub mod Added
+pub mod Additions
 pub mod Answers
 pub mod AtLeast
 pub mod Editions

@@ -202,7 +202,7 @@ module _ (P : ℕ → Type 0) where
 -- ---- the first unbalanced transition
 
 -- no number at all
-first-none : (f : ℕ → ℕ) (n : ℕ) → ((i : ℕ) → i < n → f i ≡ 0) → firstCode f n ≡ 0
+pub first-none : (f : ℕ → ℕ) (n : ℕ) → ((i : ℕ) → i < n → f i ≡ 0) → firstCode f n ≡ 0
 unfolding firstCode
 first-none f zero h = refl
 first-none f (suc n) h = rw (first-none f n (λ i l. h i (omega arith))) (h n (omega arith))

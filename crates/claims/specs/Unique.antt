@@ -1,15 +1,16 @@
 -- "Prove that two answers allowed by one statement are equal": each public function of the parts, by the statement in its source.
-use Prim.Native.Nat.{ℕ, _%_, _^_, _≤_, _<_, min}
+use Prim.Native.Nat.{ℕ, _+_, _%_, _^_, _≤_, _<_, min}
 use mathlib.Core.Bool.{Bool, true, false, cond}
-use mathlib.Core.List.{List}
-use mathlib.Core.Path.{_≡_}
+use mathlib.Core.List.{List, _++_}
+use mathlib.Core.Path.{_≡_, ap₂}
 use lib.Dec.{eqb, ltb}
 use lib.IntN.{ℤ}
-use lib.ListN.{length, getD}
+use lib.ListN.{length, getD, take}
 use mir.Syntax.{w32}
 use mir.Val.{toZ, ofZ}
 use Rattle.sets.specs.Sets.{has, Within, Apart, Below, union, inter, minus, insert, beyond, first, remove, size}
 use Rattle.sets.proofs.Unique.{is-in-unique, is-within-unique, is-apart-unique, names-below-unique, joined-unique, common-unique, without-unique, with-unique, with-if-unique, is-in-mod-unique, with-if-mod-unique, beyond-unique, first-unique, without-first-unique, size-unique}
+use Rattle.sets.specs.Bytes.{Put}
 use Rattle.sets.specs.Loops.{all, orElse}
 use Rattle.fields.specs.Fields.{timed, unless, kindFits, stepFits, actionFits, transitionCode, durationFits, blockFits, caseFits, editionFits, second}
 use Rattle.fields.proofs.Unique.{is-timed-unique, or-else-unique, unless-unique, kind-fits-unique, step-fits-unique, action-fits-unique, transition-passes-unique, transition-code-unique, duration-fits-unique, block-fits-unique, case-fits-unique, edition-fits-unique, is-second-unique}
@@ -75,10 +76,10 @@ use Rattle.trace.specs.Tracing.{callAt, numberOf, traceNumber}
 use Rattle.trace.specs.declared.tracing.Call.{Call}
 use Rattle.trace.proofs.Unique.{call-at-unique}
 use Rattle.tally.specs.Tallying.{tallyOf}
-use Rattle.tally.specs.Weighing.{weighOf}
+use Rattle.tally.specs.Weighing.{weightIn, weighOf}
 use Rattle.tally.specs.declared.tallying.Tallied.{Tallied}
 use Rattle.tally.specs.declared.weighing.Weighed.{Weighed}
-use Rattle.tally.proofs.Unique.{tally-unique, weigh-unique}
+use Rattle.tally.proofs.Unique.{tally-unique, weigh-unique, weight-in-unique}
 use Rattle.writer.specs.Writing.{writeChart}
 use Rattle.writer.specs.declared.writing.Writing.{Writing}
 use Rattle.writer.proofs.Unique.{write-chart-unique}
@@ -86,6 +87,19 @@ use Rattle.report.specs.Printing.{opening, printedOf, lineAfter}
 use Rattle.report.specs.declared.printing.Standing.{Standing}
 use Rattle.report.specs.declared.printing.Printed.{Printed}
 use Rattle.report.proofs.Unique.{opening-unique, print-next-unique}
+use Rattle.adding.specs.Adding.{addedAs, addedAfter, addOf, sumAfter, sumOf}
+use Rattle.adding.specs.declared.adding.Added.{Added}
+use Rattle.adding.proofs.Unique.{add-after-unique, add-unique, tolwaziho-add-unique}
+use Rattle.lines.specs.Lines.{text, digit, hex, decimal, namedLine, chartLine, Puts}
+use Rattle.lines.proofs.Unique.{digit-unique, put-unique as put-bytes-unique, put-decimal-unique, put-word-unique, put-named-unique, put-line-unique, chart-line-unique}
+use Rattle.weights.specs.Words.{saysOf}
+use Rattle.weights.specs.Listing.{faultIn, weightsIn}
+use Rattle.weights.specs.declared.listing.Listed.{Listed}
+use Rattle.weights.specs.declared.words.Said.{Said}
+use Rattle.weights.proofs.Unique.{says-unique, list-unique}
+use Rattle.page.specs.Page.{pageLine}
+use Rattle.page.specs.declared.page.Heard.{Heard}
+use Rattle.page.proofs.Unique.{page-line-unique}
 
 -- two answers that a statement allows are equal
 abbrev pub One : {A : Type 0} → (A → Type 0) → Type 0
@@ -262,6 +276,15 @@ pub record TallyUnique : Type 0 where
   pub tally : (chart : Chart) (run : Run) → One (λ (r : Tallied). r ≡ tallyOf chart run)
   pub weigh-on : (lent : Chart) (weights : List ℕ) → One (λ (r : Weighed). r ≡ weighOf lent weights)
   pub weigh : (chart : Chart) (weights : List ℕ) → One (λ (r : Weighed). r ≡ weighOf chart weights)
+  pub weight-in : (set : ℕ) (weights : List ℕ) → One (λ (r : ℕ). r ≡ weightIn weights set)
+
+-- adding/src: adding
+pub record AddingUnique : Type 0 where
+  pub add-after : (held n : ℕ) (first second sum : List ℕ)
+      → Both (λ (r : Added) (exit : List ℕ). (r ≡ addedAfter held n first second (length sum)) × (exit ≡ sumAfter held n first second sum))
+  pub add : (chart : Chart) (first second sum : List ℕ) → Both (λ (r : Added) (exit : List ℕ). (r ≡ addOf chart first second (length sum)) × (exit ≡ sumOf chart first second sum))
+  pub tolwaziho-add : (held steps : ℕ) (first second sum : List ℕ)
+      → Both (λ (r : ℕ × ℕ) (exit : List ℕ). (addedAs (r .0) (r .1) ≡ addedAfter held steps first second (length sum)) × (exit ≡ sumAfter held steps first second sum))
 
 -- writer/src: writing
 pub record WriterUnique : Type 0 where
@@ -273,6 +296,26 @@ pub record ReportUnique : Type 0 where
   pub opening : One (λ (r : Standing). r ≡ opening)
   pub print-next : (code : ℕ) (chart : Chart) (trace : List ℕ) (standing : Standing) (line : List ℕ)
       → Both (λ (r : Printed) (exit : List ℕ). (r ≡ printedOf (length line) code chart trace standing) × (exit ≡ lineAfter code chart trace standing line) × (r .length ≤ length line))
+
+-- lines/src/lib.rt
+pub record LinesUnique : Type 0 where
+  pub digit : (n : ℕ) → One (λ (r : ℕ). r ≡ digit (n % 16))
+  pub put : (line : List ℕ) (at : ℕ) (bytes : List ℕ) → Both (λ (r : ℕ) (exit : List ℕ). Puts (length bytes) line at bytes exit r)
+  pub put-decimal : (line : List ℕ) (at n : ℕ) → Both (λ (r : ℕ) (exit : List ℕ). Puts 20 line at (decimal n) exit r)
+  pub put-word : (line : List ℕ) (at k n : ℕ) → Both (λ (r : ℕ) (exit : List ℕ). Puts (k + 1) line at (text " " ++ hex k n) exit r)
+  pub put-named : (line : List ℕ) (at : ℕ) (name : List ℕ) (n : ℕ) → Both (λ (r : ℕ) (exit : List ℕ). Puts (length name + 20) line at (name ++ decimal n) exit r)
+  pub put-line : (line : List ℕ) (at : ℕ) (name : List ℕ) (n : ℕ) → Both (λ (r : ℕ) (exit : List ℕ). Puts (length name + 21) line at (namedLine name n) exit r)
+  pub chart-line : (line : List ℕ) (at code : ℕ) → Both (λ (r : ℕ) (exit : List ℕ). Puts 35 line at (chartLine code) exit r)
+
+-- weights/src: listing, words
+pub record WeightsUnique : Type 0 where
+  pub says : (line : List ℕ) → One (λ (r : Said). r ≡ saysOf line)
+  pub list : (text weights : List ℕ) → Both (λ (r : Listed) (exit : List ℕ). (r .fault ≡ faultIn text) × Put weights 0 (take (length weights) (weightsIn text)) exit (r .count))
+
+-- page/src: page
+pub record PageUnique : Type 0 where
+  pub page-line : (heard : Heard) (n : ℕ) (sources targets : List ℕ) (initial : ℕ) (weights : List ℕ) (k : ℕ) (line : List ℕ)
+      → Both (λ (r : ℕ) (exit : List ℕ). Puts 512 line 0 (pageLine heard n sources targets initial weights k) exit r × (r ≤ length line))
 
 pub record Unique : Type 0 where
   pub sets : SetsUnique
@@ -292,8 +335,12 @@ pub record Unique : Type 0 where
   pub shift : ShiftUnique
   pub trace : TraceUnique
   pub tally : TallyUnique
+  pub adding : AddingUnique
   pub writer : WriterUnique
+  pub lines : LinesUnique
   pub report : ReportUnique
+  pub weights : WeightsUnique
+  pub page : PageUnique
 
 pub unique : Unique
 unique = record {
@@ -410,10 +457,27 @@ unique = record {
     tally = tally-unique;
     weigh-on = weigh-unique;
     weigh = weigh-unique;
+    weight-in = weight-in-unique;
+  };
+  adding = record {
+    add-after = λ held n first second sum r q f g. add-after-unique held n first second sum f g r q;
+    add = λ chart first second sum r q f g. add-unique chart first second sum f g r q;
+    tolwaziho-add = λ held steps first second sum r q f g a b. let u = tolwaziho-add-unique held steps first second sum f g (r .0) (q .0) (r .1) (q .1) a b in (ap₂ (λ (x y : ℕ). (x, y)) (u .0) (u .1), u .2);
   };
   writer = record { write-on = write-chart-unique; write-chart = write-chart-unique };
+  lines = record {
+    digit = digit-unique;
+    put = put-bytes-unique;
+    put-decimal = put-decimal-unique;
+    put-word = put-word-unique;
+    put-named = put-named-unique;
+    put-line = put-line-unique;
+    chart-line = chart-line-unique;
+  };
   report = record {
     opening = opening-unique;
     print-next = λ code chart trace standing line r q f g. print-next-unique code chart trace standing line f g r q;
   };
+  weights = record { says = says-unique; list = λ text weights r q f g. list-unique text weights f g r q };
+  page = record { page-line = λ heard n sources targets initial weights k line r q f g. page-line-unique heard n sources targets initial weights k line f g r q };
 }

@@ -134,6 +134,14 @@ all-balanced n sources targets weights e t l =
     go true q h = eqb-true _ _ q
     go false q h = absurd (omega arith)
 
+-- a test of two numbers that gives no number
+pub unless-none : (a b n : ℕ) → unless (eqb a b) (suc n) ≡ 0 → a ≡ b
+unless-none a b n = go (eqb a b) refl
+  where
+    go : (t : Bool) → eqb a b ≡ t → unless t (suc n) ≡ 0 → a ≡ b
+    go true e h = eqb-true a b e
+    go false e h = absurd (omega arith)
+
 -- weights that the weighing accepts are balanced, and the total that it answers is what the initial steps weigh
 pub weighed : (c : Chart) (weights : List ℕ) → weighOf c weights .code ≡ 0
     → Balanced c (λ k. getD weights k 0) × (weighOf c weights .total ≡ initialWeight c (λ k. getD weights k 0))
@@ -142,15 +150,7 @@ weighed c weights h =
     let a = accepted (weighCode c weights) _ _ h in
     let b = else-zero (chartCode c) _ (a .0) in
     let d = else-zero (unless (eqb (length weights) (c .steps)) 13) _ (b .1) in
-    (all-balanced (c .transitions) (c .sources) (c .targets) weights (zero-of (unbalancedIn c weights) (d .1)), ap (λ (o : Weighed). o .total) (a .1))
-  where
-    -- the last test
-    zero-of : (n : ℕ) → unless (eqb n 0) 14 ≡ 0 → n ≡ 0
-    zero-of n = go (eqb n 0) refl
-      where
-        go : (b : Bool) → eqb n 0 ≡ b → unless b 14 ≡ 0 → n ≡ 0
-        go true e h = eqb-true n 0 e
-        go false e h = absurd (omega arith)
+    (all-balanced (c .transitions) (c .sources) (c .targets) weights (unless-none (unbalancedIn c weights) 0 13 (d .1)), ap (λ (o : Weighed). o .total) (a .1))
 
 -- so two different steps whose weights together exceed that total are not both active, from an accepted start over any calls
 pub weighed-apart : (c : Chart) (weights : List ℕ) → weighOf c weights .code ≡ 0 → (clock lent : ℕ) → startOf c clock lent .code ≡ 0 → (xs : List Call)

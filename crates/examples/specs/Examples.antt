@@ -38,6 +38,7 @@ use Rattle.key.specs.Turning.{marked, turnOf}
 use Rattle.shift.specs.Shifting.{Done, shiftOf}
 use Rattle.tally.specs.Tallying.{tallyOf}
 use Rattle.tally.specs.Weighing.{weightIn, unbalanced, weighOf}
+use Rattle.adding.specs.Adding.{sums, unfit, addedAs, addOf, sumOf}
 use Rattle.claims.specs.Runs.{Call, cycle, after, listed, history, howMany, arrivals, departures, begun}
 use Rattle.claims.specs.Weights.{weighed-apart}
 
@@ -323,6 +324,45 @@ brake =
 pub brake-total : weighOf brake (3 ∷ 2 ∷ 2 ∷ 1 ∷ 1 ∷ []) ≡ record { code = 0; transition = 0; total = 3 }
 unfolding all some summed firstCode collect stepsCode actionsCode transitionsCode transitionCode blocksCode casesCode someInitial timedTwice heldCode initialSet weightIn unbalanced
 brake-total = refl
+
+-- document 02, request (x): these weights are twice the first and once the second
+abbrev pressure : List ℕ
+pressure = 1 ∷ 1 ∷ 1 ∷ 0 ∷ 0 ∷ []
+
+abbrev records : List ℕ
+records = 1 ∷ 0 ∷ 0 ∷ 1 ∷ 1 ∷ []
+
+-- added into a list of five nines
+abbrev plus : List ℕ → List ℕ → List ℕ
+plus first second = sumOf brake first second (replicate 5 9)
+
+pub record Adding : Type 0 where
+  pub first-total : weighOf brake pressure ≡ record { code = 0; transition = 0; total = 1 }
+  pub second-total : weighOf brake records ≡ record { code = 0; transition = 0; total = 1 }
+  pub accepted : addOf brake pressure records 5 ≡ addedAs 0 0
+  pub one-of-each : plus pressure records ≡ 2 ∷ 1 ∷ 1 ∷ 1 ∷ 1 ∷ []
+  pub two-and-one : plus pressure (plus pressure records) ≡ 3 ∷ 2 ∷ 2 ∷ 1 ∷ 1 ∷ []
+  pub total : weighOf brake (plus pressure (plus pressure records)) ≡ record { code = 0; transition = 0; total = 3 }
+  -- 65,535 with 0 fits, with 1 it doesn't: the first such step is named and nothing is written
+  pub fits : addOf brake (replicate 5 65535) (replicate 5 0) 5 ≡ addedAs 0 0
+  pub too-large : addOf brake (replicate 5 65535) (0 ∷ 0 ∷ 1 ∷ 1 ∷ 0 ∷ []) 5 ≡ addedAs 21 2
+  pub unwritten : plus (replicate 5 65535) (0 ∷ 0 ∷ 1 ∷ 1 ∷ 0 ∷ []) ≡ replicate 5 9
+  pub too-short : addOf brake pressure records 4 ≡ addedAs 13 0
+
+pub adding : Adding
+unfolding all some summed firstCode tableFrom collect stepsCode actionsCode transitionsCode transitionCode blocksCode casesCode someInitial timedTwice heldCode initialSet weightIn unbalanced sums unfit
+adding = record {
+  first-total = refl;
+  second-total = refl;
+  accepted = refl;
+  one-of-each = refl;
+  two-and-one = refl;
+  total = refl;
+  fits = refl;
+  too-large = refl;
+  unwritten = refl;
+  too-short = refl;
+}
 
 -- a shift of three calls, L 10 at 9 and at 10 and then a clock one back: it stops there, with activity 1 and 0, and the third word stays
 abbrev stopped : Done
