@@ -714,17 +714,49 @@ fn balance(weights: &mut [u64], chart: &Chart) {
     }
 }
 
-// As many as there are steps, mostly; all alike but for a few, or balanced where they can be.
-fn random_weights(rng: &Rng, chart: &Chart) -> Vec<u64> {
-    let (steps, weight) = (chart[STEP].len(), rng.pick(&[0, 1, 65535, rng.any() % 65536]));
-    let mut weights: Vec<u64> = (0..steps).map(|_| if rng.chance(5) { rng.any() % 65536 } else { weight }).collect();
+// As many as there are steps; all alike but for a few, or balanced where they can be.
+fn step_weights(rng: &Rng, chart: &Chart) -> Vec<u64> {
+    let weight = rng.pick(&[0, 1, 65535, rng.any() % 65536]);
+    let mut weights: Vec<u64> = chart[STEP].iter().map(|_| if rng.chance(5) { rng.any() % 65536 } else { weight }).collect();
     if rng.chance(50) {
         balance(&mut weights, chart);
     }
+    weights
+}
+
+// Mostly not the number of steps.
+fn other_length(rng: &Rng, steps: usize) -> usize {
+    rng.pick(&[steps - 1, steps + 1, 0, 64, 255])
+}
+
+// As many as there are steps, mostly.
+fn random_weights(rng: &Rng, chart: &Chart) -> Vec<u64> {
+    let mut weights = step_weights(rng, chart);
     if rng.chance(20) {
-        weights.resize(rng.pick(&[steps - 1, steps + 1, 0, 64, 255]), weight);
+        weights.resize(other_length(rng, weights.len()), weights[0]);
     }
     weights
+}
+
+// Two weighings for one chart. The second is any too, or zeros, or what the first lacks of 65,535, or less; then 65,536 at a step or two, in some of the
+// cases: at the first, at the last or at any.
+fn two_weighings(rng: &Rng, chart: &Chart) -> [Vec<u64>; 2] {
+    let mut first = step_weights(rng, chart);
+    let mut second = match rng.below(4) {
+        0 => step_weights(rng, chart),
+        1 => vec![0; first.len()],
+        2 => first.iter().map(|weight| 65535 - weight).collect(),
+        _ => first.iter().map(|weight| rng.any() % (65536 - weight)).collect(),
+    };
+    for _ in 0..if rng.chance(30) { 1 + rng.below(2) } else { 0 } {
+        let k = rng.pick(&[0, first.len() - 1, rng.below(first.len())]);
+        first[k] = first[k].max(1);
+        second[k] = 65536 - first[k];
+    }
+    if rng.chance(50) {
+        (first, second) = (second, first);
+    }
+    [first, second]
 }
 
 // ---------------------------------------------------------------------------------------------
@@ -836,10 +868,11 @@ const RELEASE: u64 = 7;
 const INDEX: u64 = 8;
 const CYCLE_BY: u64 = 9;
 const SHIFT_BY: u64 = 10;
+const ADDING: u64 = 11;
 // each by its name
 #[rustfmt::skip]
-const CALLS: [&str; 11] = [
-    "start", "cycle", "tally", "weighing", "writing", "shift", "hold", "release", "building", "cycle by index", "shift by index",
+const CALLS: [&str; 12] = [
+    "start", "cycle", "tally", "weighing", "writing", "shift", "hold", "release", "building", "cycle by index", "shift by index", "adding",
 ];
 
 // A call on what is held, without the lists that may follow.
@@ -1103,6 +1136,48 @@ fn shift_case(rng: &Rng, number: u64) -> Case {
     Case { request: bytes, count: Box::new(move |reached, line| count_any_shift(reached, &shift, line)) }
 }
 
+// Two weighings to be added on a held chart, beside a held run, the number of words lent for their sum, and whether the chart is one but for its
+// edition.
+struct Adding {
+    held: Held,
+    lists: [Vec<u64>; 2],
+    lent: usize,
+    by_edition: bool,
+}
+
+// A chart as it was made, or altered, beside a run of it but now and then for its mark; and lists of the right length, or one or more that mostly are
+// not. What is more in the clock and the inputs than two lengths is anything.
+fn adding_case(rng: &Rng, _: u64) -> Case {
+    let chart = random_chart(rng);
+    let mut held = Held::of(&file_of(&chart));
+    put_run(rng, &mut held, &chart, 0, None);
+    put_junk(rng, &mut held);
+    let made = held.clone();
+    match rng.below(20) {
+        0..=1 => alter_held(rng, &mut held, 0..Edition as usize),
+        2 => held[Edition][0] = no_edition(rng),
+        3..=4 => put_one_fault(rng, &mut held),
+        _ => {}
+    }
+    let (steps, mut lists, mut lent) = (chart[STEP].len(), two_weighings(rng, &chart), chart[STEP].len());
+    let longer = || if rng.chance(10) { steps + 256 } else { other_length(rng, steps) };
+    // bit k is list k
+    let wrong = if rng.chance(70) { 0 } else { rng.pick(&[1, 2, 4, rng.below(8)]) };
+    for (k, list) in lists.iter_mut().enumerate().filter(|(k, _)| wrong >> k & 1 == 1) {
+        // the first list's length has one byte
+        list.resize(if k == 0 { other_length(rng, steps) } else { longer() }, list[0]);
+    }
+    if wrong >> 2 == 1 {
+        lent = longer();
+    }
+    let above = || rng.any() << 16 & numbers(32);
+    let mut bytes = request(&held, ADDING, above() | lists[1].len() as u64, above() | lent as u64, rng.any() % 256, lists[0].len());
+    lists.iter().flatten().for_each(|weight| put(&mut bytes, *weight, 2));
+    let by_edition = held.differs_by_edition(&made);
+    let adding = Adding { held, lists, lent, by_edition };
+    Case { request: bytes, count: Box::new(move |reached, line| count_added(reached, &adding, line)) }
+}
+
 // A chart file, or none, and a trace.
 struct Printing {
     file: Option<Vec<u8>>,
@@ -1166,7 +1241,7 @@ impl Reached {
 
 // What a comparison must reach: without it equal answers say nothing of it.
 fn needed() -> Vec<String> {
-    let mut names: Vec<String> = (1..=18).chain([20]).map(|code| format!("refused {code}")).collect();
+    let mut names: Vec<String> = (1..=18).chain([20, 21]).map(|code| format!("refused {code}")).collect();
     for (q, name) in (0..).zip(NAMES).filter(|(q, _)| *q != R) {
         let timed = TIMED.contains(&q);
         let of = |what: &str| format!("{name} {what}");
@@ -1186,6 +1261,7 @@ fn needed() -> Vec<String> {
     names.extend(needed_of_hold());
     names.extend(needed_of_editions());
     names.extend(needed_of_indexes());
+    names.extend(needed_of_adding());
     names
 }
 
@@ -1269,6 +1345,19 @@ const BY: &str = " by index";
 const CYCLE_FAULTS: [u64; 3] = [20, 12, 11];
 const SHIFT_FAULTS: [u64; 4] = [20, 12, 18, 11];
 
+// Each of a call's refusals, by itself and with each fault behind it; and what it must not do: refuse before an earlier fault, or accept any.
+fn in_order(call: &str, faults: &[u64]) -> Vec<String> {
+    let with = |k: usize| faults[k + 1..].iter().map(move |late| format!("{call} refused {} with {late}", faults[k]));
+    let each = (0..faults.len()).flat_map(|k| [format!("{call} refused {}", faults[k])].into_iter().chain(with(k)));
+    each.collect()
+}
+
+fn out_of_order(call: &str, faults: &[u64]) -> Vec<String> {
+    let with = |k: usize| faults[..k].iter().map(move |early| format!("{call} refused {} with {early}", faults[k]));
+    let each = (0..faults.len()).flat_map(|k| [format!("{call} accepted with {}", faults[k])].into_iter().chain(with(k)));
+    each.collect()
+}
+
 // Calls by an index: each refusal, by itself and with each fault behind it; 20 in each way that an index can be another; and in both editions, held
 // and not, the same answers where transitions are consulted and where they are not.
 fn needed_of_indexes() -> Vec<String> {
@@ -1276,10 +1365,7 @@ fn needed_of_indexes() -> Vec<String> {
     for (call, faults) in [("cycle", &CYCLE_FAULTS[..]), ("shift", &SHIFT_FAULTS[..])] {
         names.extend(["15", "by the chart"].map(|code| format!("{call}{BY} refused {code}")));
         names.extend(["15", "by the chart"].map(|code| format!("{call}{BY} refused {code} with 20")));
-        for (k, code) in faults.iter().enumerate() {
-            names.push(format!("{call}{BY} refused {code}"));
-            names.extend(faults[k + 1..].iter().map(|late| format!("{call}{BY} refused {code} with {late}")));
-        }
+        names.extend(in_order(&format!("{call}{BY}"), faults));
         names.extend(WAYS.map(|way| format!("{call}{BY} refused 20 by {way}")));
         for edition in [1, 2] {
             names.extend(["under", "without"].map(|so| format!("{call}{BY} accepted {so} hold in edition {edition}")));
@@ -1324,23 +1410,58 @@ const NEEDED_OF_BUILDING: [&str; 9] = [
 fn never_of_indexes() -> Vec<String> {
     let mut names = [11, 12, 15, 18, 20].map(|code| format!("building refused {code}")).to_vec();
     for (call, faults) in [("cycle", &CYCLE_FAULTS[..]), ("shift", &SHIFT_FAULTS[..])] {
-        for (k, code) in faults.iter().enumerate() {
-            names.push(format!("{call}{BY} accepted with {code}"));
-            names.extend(faults[..k].iter().map(|early| format!("{call}{BY} refused {code} with {early}")));
-        }
+        names.extend(out_of_order(&format!("{call}{BY}"), faults));
         names.push(format!("{call}{BY} refused 20 by the chart itself"));
     }
     names
 }
 
+// The faults that adding may have behind the chart's, in the order in which they are tested; and its lists.
+const ADDING_FAULTS: [u64; 2] = [13, 21];
+const LISTS: [&str; 3] = ["first", "second", "third"];
+
+// Adding: each refusal, by itself and with each fault behind it, the chart's by their numbers; each list that is wrong by itself, in each way; and in both
+// editions what is added, and where a sum doesn't fit.
+fn needed_of_adding() -> Vec<String> {
+    let mut names = in_order("adding", &ADDING_FAULTS);
+    names.extend(["", " with 13", " with 21"].map(|fault| format!("adding refused by the chart{fault}")));
+    names.extend((4..=9).map(|code| format!("adding refused {code}")));
+    for list in LISTS {
+        names.extend(["shorter", "longer", "empty"].map(|length| format!("adding refused 13 by the {list} list alone, {length}")));
+    }
+    names.extend([1, 2].iter().flat_map(|edition| ADDED.map(|name| format!("{name} in edition {edition}"))));
+    names
+}
+
+#[rustfmt::skip]
+const ADDED: [&str; 18] = [
+    "added on one step", "added on two steps", "added on 64 steps", "added to 65,535", "added zeros", "added to zeros", "added zeros to zeros",
+    "added balanced ones", "added unbalanced ones", "added to a balanced one", "added beside a run that is none",
+    "21 at the first step", "21 at the last step", "21 at step 63", "21 at one step alone", "21 at several steps", "21 by 65,536", "21 by more",
+];
+
+// What adding must not do: tell a fault that it has not, or another step than the first whose sum doesn't fit, name a step otherwise, write where it
+// refuses, or make an unbalanced sum of balanced weighings.
+fn never_of_adding() -> Vec<String> {
+    let mut names = out_of_order("adding", &ADDING_FAULTS);
+    names.extend(ADDING_FAULTS.map(|code| format!("adding refused {code} without it")));
+    names.extend([11, 12, 14, 15, 17, 18, 20].map(|code| format!("adding refused {code}")));
+    names.extend(NEVER_ADDED.map(str::to_string));
+    names
+}
+
+const NEVER_ADDED: [&str; 4] =
+    ["adding names another step", "adding names a step without 21", "adding refused, and written", "added balanced ones, unbalanced"];
+
 // What must not be reached: in edition 2 no target is tested; a second line has no reason that needs a transition taken, nor a key; kind 6 is neither
-// above 6 nor smaller than any kind before it; and what an index must not do.
+// above 6 nor smaller than any kind before it; and what an index and adding must not do.
 fn never() -> Vec<String> {
     let mut names = vec!["refused 2 by the edition record".to_string()];
     names.extend([5, 6].map(|reason| format!("reason {reason}{IN_2}")));
     names.extend([5, 6].map(|reason| format!("printed reason {reason}{IN_2}")));
     names.extend([0, 2, 6, 7].map(|reason| format!("printed reason {reason}")));
     names.extend(never_of_indexes());
+    names.extend(never_of_adding());
     names
 }
 
@@ -1770,8 +1891,8 @@ fn count_built(reached: &mut Reached, call: &Call, line: &str) {
     reached.note("built too late", elapsed(call) > MINUTE as u64);
 }
 
-// A call by an index, by its number and by each fault beside it that comes behind 15 and the chart's; of 20, by the way in which the index was made.
-fn count_by(reached: &mut Reached, name: &str, index: &Leaving, faults: &[u64], code: u64) {
+// A call by its number, and by each fault beside it that comes behind 15 and the chart's.
+fn count_faults(reached: &mut Reached, name: &str, faults: &[u64], code: u64) {
     let said = match code {
         0 => "accepted".to_string(),
         4..=9 => "refused by the chart".to_string(),
@@ -1783,6 +1904,11 @@ fn count_by(reached: &mut Reached, name: &str, index: &Leaving, faults: &[u64], 
     for fault in faults.iter().filter(|fault| **fault != code) {
         reached.add(&format!("{name} {said} with {fault}"), 1);
     }
+}
+
+// A call by an index so; of 20, by the way in which the index was made.
+fn count_by(reached: &mut Reached, name: &str, index: &Leaving, faults: &[u64], code: u64) {
+    count_faults(reached, name, faults, code);
     if code == 20 {
         let way = index.way.filter(|_| faults.contains(&20)).map_or("the chart itself", |way| WAYS[way]);
         reached.add(&format!("{name} refused 20 by {way}"), 1);
@@ -1852,6 +1978,77 @@ fn count_written(reached: &mut Reached, size: u64, lent: u64, edition: &str, lin
     reached.note(&format!("written into its length{edition}"), code == 0 && lent == length);
     reached.note(&format!("written into more{edition}"), code == 0 && lent > length);
     reached.note("written in 6,441 bytes", code == 0 && length == 6441);
+}
+
+// An adding by its number, with the faults that its lists have; a sum doesn't fit where both have a weight, and their lengths may be wrong too.
+fn count_added(reached: &mut Reached, adding: &Adding, line: &str) {
+    let (held, [first, second], numbers) = (&adding.held, &adding.lists, answered(line, 2 + adding.lent));
+    let (code, step, sums) = (numbers[0], numbers[1], &numbers[2..]);
+    let lengths = [first.len(), second.len(), adding.lent];
+    let wrong: Vec<usize> = (0..3).filter(|list| lengths[*list] != held.count(Steps)).collect();
+    let together: Vec<u64> = first.iter().zip(second).take(held.count(Steps)).map(|(first, second)| first + second).collect();
+    let unfit: Vec<usize> = (0..together.len()).filter(|k| together[*k] > 65535).collect();
+    let so = [(13, !wrong.is_empty()), (21, !unfit.is_empty())];
+    let faults: Vec<u64> = so.iter().filter(|(_, so)| *so).map(|(fault, _)| *fault).collect();
+    reached.answer(code, "adding accepted");
+    count_edition(reached, "adding", held.is_second(), adding.by_edition, line);
+    count_faults(reached, "adding", &faults, code);
+    if ADDING_FAULTS.contains(&code) {
+        reached.note(&format!("adding refused {code} without it"), !faults.contains(&code));
+    }
+    reached.note("adding names a step without 21", code != 21 && step > 0);
+    reached.note("adding refused, and written", code > 0 && (0..).zip(sums).any(|(k, sum)| *sum != 50000 + k % 256));
+    match (code, &wrong[..]) {
+        (0, []) => count_sums(reached, adding, sums),
+        (4..=9, _) => reached.add(&format!("adding refused {code}"), 1),
+        (13, [list]) => {
+            let length = if lengths[*list] > held.count(Steps) { "longer" } else { ["empty", "shorter"][lengths[*list].min(1)] };
+            reached.add(&format!("adding refused 13 by the {} list alone, {length}", LISTS[*list]), 1);
+        }
+        (21, _) => count_unfit(reached, held, step, &unfit, &together),
+        _ => {}
+    }
+}
+
+// Whether each transition's sources weigh as much as its targets.
+fn is_balanced(held: &Held, weights: &[u64]) -> bool {
+    let sum = |set: u64| members(set).iter().map(|k| weights[*k]).sum::<u64>();
+    (0..held.count(Transitions)).all(|t| sum(held[Sources][t]) == sum(held[Targets][t]))
+}
+
+// What was added; balanced ones where there are transitions, and neither is all zeros.
+fn count_sums(reached: &mut Reached, adding: &Adding, sums: &[u64]) {
+    let (held, lists) = (&adding.held, &adding.lists);
+    let zeros = [0, 1].map(|k| lists[k].iter().all(|weight| *weight == 0));
+    let balanced = [0, 1].map(|k| is_balanced(held, &lists[k]));
+    let telling = held.count(Transitions) > 0 && zeros == [false; 2];
+    reached.note("added balanced ones, unbalanced", balanced == [true; 2] && !is_balanced(held, sums));
+    let mut note = |name: &str, so: bool| reached.note(&format!("{name} in edition {}", held[Edition][0]), so);
+    note("added on one step", sums.len() == 1);
+    note("added on two steps", sums.len() == 2);
+    note("added on 64 steps", sums.len() == 64);
+    note("added to 65,535", sums.contains(&65535));
+    note("added zeros", zeros == [false, true]);
+    note("added to zeros", zeros == [true, false]);
+    note("added zeros to zeros", zeros == [true; 2]);
+    note("added balanced ones", telling && balanced == [true; 2]);
+    note("added unbalanced ones", telling && balanced == [false; 2]);
+    note("added to a balanced one", telling && balanced == [true, false]);
+    note("added beside a run that is none", held[Hold][0] > 1);
+}
+
+// Where sums don't fit, and by how much the first.
+fn count_unfit(reached: &mut Reached, held: &Held, step: u64, unfit: &[usize], together: &[u64]) {
+    let first = unfit.first().map(|k| *k as u64);
+    reached.note("adding names another step", first != Some(step));
+    let mut note = |name: &str, so: bool| reached.note(&format!("{name} in edition {}", held[Edition][0]), so);
+    note("21 at the first step", step == 0);
+    note("21 at the last step", step + 1 == held[Steps][0] && step > 0);
+    note("21 at step 63", step == 63);
+    note("21 at one step alone", unfit.len() == 1);
+    note("21 at several steps", unfit.len() > 1);
+    note("21 by 65,536", unfit.iter().take(1).any(|k| together[*k] == 65536));
+    note("21 by more", unfit.iter().take(1).any(|k| together[*k] > 65536));
 }
 
 fn count_any_shift(reached: &mut Reached, shift: &Shift, line: &str) {
@@ -2003,12 +2200,13 @@ struct Part {
     make: fn(&Rng, u64) -> Case,
 }
 
-const PARTS: [Part; 5] = [
+const PARTS: [Part; 6] = [
     Part { what: "files read", times: 1, driver: "read_charts", second: "read", lengths: [2, 4], make: read_case },
     Part { what: "files written back", times: 1, driver: "write_back", second: "back", lengths: [2, 4], make: back_case },
     Part { what: "held calls", times: 5, driver: "held_calls", second: "held", lengths: [0, 0], make: held_case },
     Part { what: "held charts written", times: 1, driver: "held_calls", second: "held", lengths: [0, 0], make: writing_case },
     Part { what: "shifts", times: 1, driver: "held_calls", second: "held", lengths: [0, 0], make: shift_case },
+    Part { what: "weighings added", times: 1, driver: "held_calls", second: "held", lengths: [0, 0], make: adding_case },
 ];
 
 // So many cases are made, answered and compared at a time: enough that starting two programs costs little, few enough for the memory, since the

@@ -405,6 +405,23 @@ static void held_weighing(const uint16_t *weights, size_t many)
 	number(weighed.total);
 }
 
+/* The second list stands behind the first. A list may have as many weights as two bytes can say, and be wrong by that. */
+static bool held_adding(const uint16_t *first, size_t nfirst, size_t nsecond, size_t nsum)
+{
+	static uint16_t second[1 << 16], sum[1 << 16];
+	size_t step;
+	if (!take(second, nsecond * sizeof *second))
+		return false;
+	for (size_t k = 0; k < nsum; k++)
+		sum[k] = (uint16_t)(50000 + k % 256);
+	number(tw_add(&chart, first, nfirst, second, nsecond, sum, nsum, &step));
+	number(step);
+	for (size_t k = 0; k < nsum; k++)
+		number(sum[k]);
+	end_line();
+	return true;
+}
+
 static void held_writing(size_t lent)
 {
 	size_t length;
@@ -451,7 +468,7 @@ static size_t list_length(uint32_t n)
 
 static bool held_calls(void)
 {
-	enum { START, CYCLE, TALLY, WEIGHING, WRITING, SHIFT, HOLD, RELEASE, INDEX, CYCLE_BY, SHIFT_BY };
+	enum { START, CYCLE, TALLY, WEIGHING, WRITING, SHIFT, HOLD, RELEASE, INDEX, CYCLE_BY, SHIFT_BY, ADDING };
 	uint8_t kind, lent, nweights;
 	uint32_t clock, inputs;
 	uint16_t weights[256];
@@ -465,6 +482,8 @@ static bool held_calls(void)
 		outputs[k] = 1000 + k;
 	if (kind == SHIFT || kind == SHIFT_BY)
 		return held_shift(kind == SHIFT_BY, list_length(clock & 0xffff), list_length(clock >> 16), list_length(inputs & 0xffff), lent);
+	if (kind == ADDING)
+		return held_adding(weights, nweights, clock & 0xffff, inputs & 0xffff);
 	switch (kind) {
 	case START: held_run(tw_start(&chart, &run, clock, outputs, lent), 0, lent); break;
 	case CYCLE: held_cycle(tw_cycle, clock, inputs, lent); break;

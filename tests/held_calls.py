@@ -10,17 +10,18 @@ nothing here runs the engine. tests/cases.rs makes random cases of the same form
 Images, the least byte of each number first: every field of the chart and of the run in full length, as the tables CHART and RUN
 have them; the chart's is the struct as it lies, with seven bytes behind the edition that belong to no field and are 0. The call: kind
 (0 start, 1 cycle, 2 tally, 3 weighing, 4 writing, 5 shift, 6 hold, 7 release, 8 building an index, 9 cycle by an index, 10 shift by
-an index), clock, inputs, number of lent outputs, number of weights, and the weights; of a writing, the clock is the number of lent
-bytes; of 9 and 10, the index's 64 words follow; of a shift, the clock's halves are the numbers of clocks and of inputs, the inputs'
-lower half that of lent activity words, and its clocks and inputs follow, behind the index if it is by one. Before the call lent
-output k holds 1000 + k, lent byte k holds k % 251, activity word k holds 2^32 + k, a reason 255, and a word of an index that is
-built 2^64 - 1.
+an index, 11 adding), clock, inputs, number of lent outputs, number of weights, and the weights; of a writing, the clock is the
+number of lent bytes; of 9 and 10, the index's 64 words follow; of a shift, the clock's halves are the numbers of clocks and of
+inputs, the inputs' lower half that of lent activity words, and its clocks and inputs follow, behind the index if it is by one; of an
+adding, the weights are the first list, the clock's lower half is the number of weights in the second, which follow, and the inputs'
+lower half that of lent sums. Before the call lent output k holds 1000 + k, lent byte k holds k % 251, activity word k holds
+2^32 + k, lent sum k holds 50000 + k % 256, a reason 255, and a word of an index that is built 2^64 - 1.
 
 A line of start or cycle: code, transitions taken, clock, active, activity, stored, latched, good, bad, hold, 64 step counters, 32
 action timers, the lent outputs, and of a cycle 64 reasons; of a tally: code, passed, failed, not run; of a weighing: code,
 transition, total; of a writing: code, length, the lent bytes; of a shift: code, accepted cycles, then as of a start, and the
 activity words; of a hold or a release: code, 0, then as of a start, without the outputs, which are not lent to it; of an index that
-is built: code, its 64 words.
+is built: code, its 64 words; of an adding: code, step, the lent sums.
 """
 import struct
 import sys
@@ -30,7 +31,7 @@ from read_charts import (  # noqa: E402
     CHART_A, D, DAY, DS, EDITION, END, FULL as FULL_CHART, L, P, P0, P1, SD, SL, action, case, second, step, store,
 )
 
-START, CYCLE, TALLY, WEIGHING, WRITING, SHIFT, HOLD, RELEASE, INDEX, CYCLE_BY, SHIFT_BY = range(11)
+START, CYCLE, TALLY, WEIGHING, WRITING, SHIFT, HOLD, RELEASE, INDEX, CYCLE_BY, SHIFT_BY, ADDING = range(12)
 LIMITS = {"steps": 64, "actions": 32, "transitions": 64, "blocks": 256, "cases": 64}
 
 # name, form, how many
@@ -200,6 +201,14 @@ def building(code, index=NONE, chart=NONE, run=STILL, clock=0, lent=32):
     assert code or index_words(index) == index_words(index_of(image))
     text = " ".join(map(str, [code, *(index.get(k, 0) for k in range(64))]))
     CASES.append((request(image, run, INDEX, clock, 1, lent), text))
+
+
+def adding(code, first, second, words=None, step=0, found=(), chart=NONE, run=STILL, base=A, more=0):
+    """The sums found, for every step. A refusal leaves the lent words, as many as the first list has where it isn't said. The run and the outputs play
+    no part, nor does what is more in the clock and the inputs than the lengths."""
+    left = found or [50_000 + k % 256 for k in range(len(first) if words is None else words)]
+    call = request(altered(base, chart), run, ADDING, len(second) | more << 16, len(left) | more << 16, 31, first)
+    CASES.append((call + struct.pack(f"<{len(second)}H", *second), " ".join(map(str, [code, step, *left]))))
 
 
 # The printed run of chart A, call by call; step 0 has no active action, step 1 drives output 0 by action 0, value 120
@@ -452,7 +461,7 @@ TWO = {"edition": 2}
 
 
 def by_every_call(code, chart, run=BEGUN):
-    """The chart's number from each of the eleven calls, on a run of chart A at 1000 that with chart A they would accept."""
+    """The chart's number from each of the twelve calls, on a run of chart A at 1000 that with chart A they would accept."""
     start(line(code, 0, STILL), chart, run)
     refused(code, chart, run)
     tally(f"{code} 0 0 0", chart, run)
@@ -462,6 +471,7 @@ def by_every_call(code, chart, run=BEGUN):
     key(HOLD, code, run, chart)
     key(RELEASE, code, altered(run, {"hold": 1}), chart)
     building(code, chart=chart)
+    adding(code, [1, 2], [3, 4], chart=chart, run=run)
 
 
 for number in (0, 3, 255):
@@ -499,7 +509,7 @@ by_every_call(5, NOTHING)
 for number in (1, 2):
     start(line(9, 0, STILL), NOTHING | {"edition": number})
     writing(9, 160, chart=NOTHING | {"edition": number})
-# 15 comes before it, and 12, 11, 13, 17 and 18 behind it
+# 15 comes before it, and 12, 11, 13, 17, 18 and 21 behind it
 OTHERS = altered(BEGUN, {"active": 4, "hold": 2})
 for number in (0, 3, 255):
     bad = {"edition": number}
@@ -514,6 +524,8 @@ for number in (0, 3, 255):
     shift(5, [999], [], run=OTHERS, chart=bad)
     key(HOLD, 5, OTHERS, bad)
     key(RELEASE, 5, OTHERS, bad)
+    adding(5, [1], [2], 3, chart=bad, run=OTHERS)
+    adding(5, [65_535, 0], [1, 0], chart=bad)
 # entries beyond a count play no part in edition 2 either
 start(line(0, 0, BEGUN, driven=NONE), {("initial", 2): 255, ("sources", 2): 2**64 - 1, ("qualifier", 3): 11, ("casestep", 1): 2} | TWO)
 
@@ -857,6 +869,111 @@ for edition in (NONE, TWO):
           after=altered(STILL, {"clock": 1002, "active": 4, "activity": 2, "stored": 2, "bad": 1}), driven={0: 7})
     shift(0, range(1001, 1065), [0] * 64, run=HELD_0, chart=ring, found=[0] * 64, after=altered(HELD_0, {"clock": 1064}), driven=NONE)
 
+# Document 02, request (x): "the sum, step by step, in a third lent list", whether the weights are balanced or not: chart A's two transitions ask for
+# equal ones
+FULL_64 = chart_image(FULL_CHART + END)
+for chart in (NONE, TWO):
+    adding(0, [1, 2], [30, 40], found=[31, 42], chart=chart)
+    adding(0, [5, 5], [7, 7], found=[12, 12], chart=chart)
+    adding(0, [1, 2], [2, 1], found=[3, 3], chart=chart)
+    adding(0, [5, 5], [1, 0], found=[6, 5], chart=chart)
+    # no run is looked at, and no output is written
+    adding(0, [1, 2], [30, 40], found=[31, 42], chart=chart, run=OTHERS, more=61_001)
+    adding(0, [1, 2], [30, 40], found=[31, 42], chart=chart, run=altered(WIDE, {"hold": 255, ("counters", 1): DAY + 1}))
+    # one step, without a transition
+    adding(0, [0], [0], found=[0], chart=FEW | {"steps": 1} | chart)
+    adding(0, [300], [77], found=[377], chart=FEW | {"steps": 1} | chart)
+    # three steps, of which two have no weight; 64 steps, each with sums of its own, on the ring and on the full chart
+    adding(0, [2, 0, 0], [0, 0, 9], found=[2, 0, 9], chart=FORK | chart)
+    adding(0, range(64), [100 * k for k in range(64)], found=[101 * k for k in range(64)], chart=RING | chart)
+    adding(0, range(1000, 1064), range(64, 0, -1), found=[1064] * 64, base=FULL_64, chart=chart)
+    # "no step's sum exceeds 65,535": each step's, that sum made in several ways
+    for first in (65_535, 65_534, 32_768, 32_767, 256, 255, 1, 0):
+        adding(0, [first, 3], [65_535 - first, 4], found=[65_535, 7], chart=chart)
+        adding(0, [3, first], [4, 65_535 - first], found=[7, 65_535], chart=chart)
+    adding(0, [65_535] * 64, [0] * 64, found=[65_535] * 64, chart=RING | chart)
+    adding(0, [65_535 - k for k in range(64)], range(64), found=[65_535] * 64, base=FULL_64, chart=chart)
+# entries beyond a count play no part
+adding(0, [1, 2], [30, 40], found=[31, 42], chart={("initial", 2): 255, ("sources", 2): 2**64 - 1, ("qualifier", 3): 11, ("casestep", 1): 2})
+# "If both are balanced .., the sum is balanced and its initial total is the sum of both totals": on the fork 2, 1, 1 and 5, 2, 3
+weighing("0 0 2", [2, 1, 1], FORK)
+weighing("0 0 5", [5, 2, 3], FORK)
+adding(0, [2, 1, 1], [5, 2, 3], found=[7, 3, 4], chart=FORK)
+weighing("0 0 7", [7, 3, 4], FORK)
+# .. of two that are not balanced it may be either, and no adding tests it
+weighing("14 0 0", [2, 1, 2], FORK)
+adding(0, [2, 1, 2], [2, 2, 1], found=[4, 3, 3], chart=FORK)
+weighing("14 0 0", [4, 3, 3], FORK)
+adding(0, [2, 1, 2], [2, 1, 0], found=[4, 2, 2], chart=FORK)
+weighing("0 0 4", [4, 2, 2], FORK)
+# "order and grouping don't matter": the same two the other way round, and with 65,528, 4 and 65,524 as the third, in both groupings
+adding(0, [5, 2, 3], [2, 1, 1], found=[7, 3, 4], chart=FORK)
+adding(0, [7, 3, 4], [65_528, 4, 65_524], found=[65_535, 7, 65_528], chart=FORK)
+adding(0, [5, 2, 3], [65_528, 4, 65_524], found=[65_533, 6, 65_527], chart=FORK)
+adding(0, [2, 1, 1], [65_533, 6, 65_527], found=[65_535, 7, 65_528], chart=FORK)
+# "and the all-zero weighing changes nothing"
+adding(0, [0] * 3, [5, 2, 3], found=[5, 2, 3], chart=FORK)
+adding(0, [5, 65_535, 0], [0] * 3, found=[5, 65_535, 0], chart=FORK)
+adding(0, [0] * 64, [0] * 64, found=[0] * 64, chart=RING)
+
+# "Refusals: chart; 13 ..; 21 ..": the chart's with a sum that doesn't fit, and with three lengths that are wrong too; the edition's 5 stands above, by
+# every call
+for code, chart in REFUSED_CHARTS:
+    adding(code, [65_535, 2], [1, 4], chart=chart)
+    adding(code, [65_535] * 3, [1], 64, chart=chart | TWO, run=OTHERS)
+adding(4, [1] * 65, [1] * 65, chart={"steps": 65})
+adding(9, [], [], chart=NOTHING | {"edition": 1})
+# "13 if any of the three lengths is wrong": shorter, longer and empty, each by itself; 64 are as many as a chart's table has, and the lesser bytes of 256
+# and 258 are 0 and 2
+for many in (1, 3, 0, 64, 255):
+    adding(13, [1] * many, [3, 4], 2)
+    adding(13, [1] * many, [3, 4], 2, chart=TWO, run=OTHERS)
+for many in (1, 3, 0, 64, 256, 258):
+    adding(13, [1, 2], [3] * many)
+    adding(13, [1, 2], [3, 4], many)
+    adding(13, [1, 2], [3] * many, chart=TWO)
+    adding(13, [1, 2], [3, 4], many, chart=TWO)
+# .. two of them, and all three alike
+for many in (1, 3, 0, 64):
+    adding(13, [1, 2], [3] * many, many)
+    adding(13, [1] * many, [3, 4], many)
+    adding(13, [1] * many, [3] * many, 2)
+    adding(13, [1] * many, [3] * many)
+# .. of one step, and of 64
+for many in (0, 2, 64):
+    adding(13, [1] * many, [3], 1, chart=FEW | {"steps": 1})
+    adding(13, [1], [3] * many, chart=FEW | {"steps": 1})
+    adding(13, [1], [3], many, chart=FEW | {"steps": 1})
+for many in (63, 65, 0, 1, 128):
+    adding(13, [1] * many, [3] * 64, 64, chart=RING)
+    adding(13, [1] * 64, [3] * many, chart=RING)
+    adding(13, [1] * 64, [3] * 64, many, chart=RING)
+# .. and before 21
+for many in (1, 3, 0):
+    adding(13, [65_535] * many, [65_535] * 2, 2)
+    adding(13, [65_535] * 2, [65_535] * many)
+    adding(13, [65_535] * 2, [65_535] * 2, many)
+    adding(13, [65_535] * many, [65_535] * many)
+# "21 with the first step whose sum doesn't fit, nothing written": 65,536, made in several ways, and more, at step 0, at the last, and at both
+for chart in (NONE, TWO):
+    for first, other in ((65_535, 1), (1, 65_535), (32_768, 32_768), (256, 65_280), (65_535, 65_535), (40_000, 30_000)):
+        adding(21, [first, 3], [other, 4], chart=chart)
+        adding(21, [3, first], [4, other], step=1, chart=chart)
+        adding(21, [first] * 2, [other] * 2, chart=chart)
+    # whatever run it is, and whether balanced or not
+    adding(21, [65_535, 65_535], [0, 1], step=1, chart=chart, run=OTHERS, more=61_001)
+    adding(21, [65_535], [1], chart=FEW | {"steps": 1} | chart)
+    # of 64 steps the last alone, the first alone, one between, the first of several, all; the others have 65,535, or little
+    adding(21, [65_535] * 63 + [1], [0] * 63 + [65_535], step=63, base=FULL_64, chart=chart)
+    adding(21, [1] * 63 + [65_535], [1] * 64, step=63, chart=RING | chart)
+    adding(21, [1] + [65_535] * 63, [65_535] + [0] * 63, base=FULL_64, chart=chart)
+    adding(21, [1] * 40 + [65_535] + [1] * 23, [1] * 64, step=40, chart=RING | chart)
+    adding(21, [1] * 62 + [65_535] * 2, [65_535] * 62 + [1] * 2, chart=RING | chart)
+    adding(21, [1] * 31 + [65_535] * 33, [1] * 64, step=31, base=FULL_64, chart=chart)
+    adding(21, [k % 7 for k in range(64)], [65_530] * 64, step=6, chart=RING | chart)
+    adding(21, range(64), [65_535 - 32] * 64, step=33, base=FULL_64, chart=chart)
+    adding(21, [65_535] * 64, [65_535] * 64, base=FULL_64, chart=chart)
+
 if __name__ == "__main__":
     assert len(CASES[0][0]) == 4560 + 437 + 11
     # the edition stands behind the last case's expected value, and seven bytes of 0 behind it
@@ -865,6 +982,9 @@ if __name__ == "__main__":
     # the mark is the last byte of the run, in front of the call, and stands between the bad marks and the counters
     image, text = next((image, text) for image, text in CASES if image[4560 + 437] == HOLD)
     assert image[4560 + 436:4560 + 439] == b"\2\6\xe8" and text.split(" ")[:12] == "12 0 1509 2 3 2 0 1 0 2 0 499".split(" ")
+    # the first list stands behind its length in one byte, the second behind the first
+    image = next(image for image, _ in CASES if image[4560 + 437] == ADDING and image[4552] == 1)
+    assert image[4560 + 437:] == b"\x0b\2\0\0\0\2\0\0\0\x1f\2" + b"\1\0\2\0" + b"\x1e\0\x28\0"
     store({
         "tests/stored/held_calls.in": b"".join(case for case, _ in CASES),
         "tests/stored/held_calls.out": "".join(text + "\n" for _, text in CASES).encode(),
