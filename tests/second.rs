@@ -1,13 +1,14 @@
 // A second engine for the chart, its cycle and its tally, written from document 01 alone, with the
 // writer of charts from request (i) of document 02, the rule for P from request (ii), the whole
 // shift in one call from request (iii), the reasons why a transition waits from request (vi), the
-// hold key from request (vii), the second edition of the stepping rule from request (viii) and the
-// index of leaving transitions from request (ix). No other request of document 02 is followed.
-// Words in quotation marks above a function are sentences of document 01, or of request (i), (ii),
-// (iii), (vi), (vii), (viii) or (ix) where that is said. A function that only serves the command
-// line says so instead, since none of them speaks of that. A cycle or a shift with an index
-// consults all transitions, as one without: that the index changes no answer is what request (ix)
-// claims. The cycle that consults fewer is in the selftest alone, which compares the two.
+// hold key from request (vii), the second edition of the stepping rule from request (viii), the
+// index of leaving transitions from request (ix) and the adding of weighings from request (x). No
+// other request of document 02 is followed. Words in quotation marks above a function are sentences
+// of document 01, or of request (i), (ii), (iii), (vi), (vii), (viii), (ix) or (x) where that is
+// said. A function that only serves the command line says so instead, since none of them speaks of
+// that. A cycle or a shift with an index consults all transitions, as one without: that the index
+// changes no answer is what request (ix) claims. The cycle that consults fewer is in the selftest
+// alone, which compares the two.
 
 use std::collections::BTreeSet;
 use std::io::{Read, Write};
@@ -1116,11 +1117,20 @@ struct Weighing {
 // "the weighing chart, 13, 14"; "a refused weighing total 0"; "The transition it names is 0 unless
 // the answer is 14."
 fn weighing(held: &Held, weights: &[u16]) -> Weighing {
-    match test_chart(held) {
-        Ok(chart) if chart.steps.len() != weights.len() => refused_weighing(13, 0),
+    match test_weights(held, &[weights.len()]) {
         Ok(chart) => weigh(&chart, weights),
         Err(code) => refused_weighing(code, 0),
     }
+}
+
+// "the weighing chart, 13, ..."; "13 | the number of weights is not the number of steps" (for one
+// list or for several; the chart if there is no refusal)
+fn test_weights(held: &Held, lengths: &[usize]) -> Result<Chart, Code> {
+    let chart = test_chart(held)?;
+    if lengths.iter().any(|length| *length != chart.steps.len()) {
+        return Err(13);
+    }
+    Ok(chart)
 }
 
 // "a refused weighing total 0"
@@ -1520,6 +1530,59 @@ fn shift_with_index(
 }
 
 // ---------------------------------------------------------------------------------------------
+// Adding weighings (request (x) of document 02)
+// ---------------------------------------------------------------------------------------------
+
+// Request (x): "21 with the first step whose sum doesn't fit" (the number of refusal and that step,
+// which is 0 unless the number is 21)
+#[derive(Clone, Copy, PartialEq)]
+struct Adding {
+    code: Code,
+    step: u64,
+}
+
+// Request (x): "Supply the sum, step by step, in a third lent list."; "... nothing written"
+fn add_weighings(held: &Held, first: &[u16], second: &[u16], third: &mut [u16]) -> Adding {
+    match test_adding(held, first, second, third) {
+        Ok(sums) => {
+            for (step, sum) in sums.iter().enumerate() {
+                put(third, step, *sum);
+            }
+            Adding { code: 0, step: 0 }
+        }
+        Err(refused) => refused,
+    }
+}
+
+// Request (x): "Refusals: chart; 13 if any of the three lengths is wrong; 21 ..." (the sums to be
+// written if there is no refusal; 14 is none of the refusals, so the two need not be balanced)
+fn test_adding(
+    held: &Held,
+    first: &[u16],
+    second: &[u16],
+    third: &[u16],
+) -> Result<Vec<u16>, Adding> {
+    match test_weights(held, &[first.len(), second.len(), third.len()]) {
+        Ok(_) => sums_of(first, second).map_err(|step| Adding { code: 21, step }),
+        Err(code) => Err(Adding { code, step: 0 }),
+    }
+}
+
+// Request (x): "the sum, step by step"; "no step's sum exceeds 65,535" (or "the first step whose
+// sum doesn't fit")
+fn sums_of(first: &[u16], second: &[u16]) -> Result<Vec<u16>, u64> {
+    let mut sums = Vec::new();
+    for (step, (one, other)) in first.iter().zip(second).enumerate() {
+        let sum = u32::from(*one) + u32::from(*other);
+        if sum > 65_535 {
+            return Err(step as u64);
+        }
+        sums.push(sum as u16);
+    }
+    Ok(sums)
+}
+
+// ---------------------------------------------------------------------------------------------
 // The printed run
 // ---------------------------------------------------------------------------------------------
 
@@ -1816,10 +1879,17 @@ fn lists_image(input: &mut Fields, clock: u32, lent: u32) -> Option<Lists> {
     })
 }
 
+// For the command line: so many weights, two bytes each. The second weighing has as many as the two
+// lowest bytes of the call's clock say.
+fn weights_image(input: &mut Fields, count: usize) -> Option<Vec<u16>> {
+    Some(input.column(count, 2)?.iter().map(|weight| *weight as u16).collect())
+}
+
 // For the command line: one case of `held`, and its line. The calls are 0 start, 1 cycle, 2 tally,
 // 3 weighing, 4 writing, 5 shift, 6 setting the hold mark, 7 clearing it, 8 building an index, 9
-// cycle with an index and 10 shift with an index. The index follows the weights, and a shift's
-// clocks and inputs follow the index or, where there is none, the weights.
+// cycle with an index, 10 shift with an index and 11 adding weighings. The index follows the
+// weights, a shift's clocks and inputs follow the index or, where there is none, the weights, and
+// the second weighing follows the weights, which are the first.
 fn held_case(input: &mut Fields) -> Option<Vec<u8>> {
     let held = chart_image(input)?;
     let run = run_image(input)?;
@@ -1828,7 +1898,7 @@ fn held_case(input: &mut Fields) -> Option<Vec<u8>> {
     let inputs = input.take(4)? as u32;
     let lent = input.take(1)? as i32;
     let weights = input.take(1)? as usize;
-    let weights: Vec<u16> = input.column(weights, 2)?.iter().map(|w| *w as u16).collect();
+    let weights = weights_image(input, weights)?;
     let mut outputs: Vec<i32> = (0..lent).map(|k| 1000 + k).collect();
     let line = match kind {
         0 => start_line(&start(&held, clock, &mut outputs), &outputs),
@@ -1861,6 +1931,10 @@ fn held_case(input: &mut Fields) -> Option<Vec<u8>> {
             let answer =
                 shift_with_index(&held, &index, &run, &clocks, &inputs, &mut words, &mut outputs);
             shift_line(&answer, &outputs, &words)
+        }
+        11 => {
+            let second = weights_image(input, (clock % 65_536) as usize)?;
+            adding_line(&held, &weights, &second, inputs)
         }
         _ => b"unknown call\n".to_vec(),
     };
@@ -1939,6 +2013,17 @@ fn writing_line(held: &Held, clock: u32) -> Vec<u8> {
     let answer = write_chart(held, &mut lent);
     let mut values = vec![answer.code, answer.length];
     values.extend(lent.iter().map(|byte| u64::from(*byte)));
+    line_of(values.iter())
+}
+
+// For the command line: the line of adding weighings: the number, the step and then all the words
+// of the third list. There are as many as the two lowest bytes of the call's inputs say, word k
+// holding 50,000 + k % 256 before.
+fn adding_line(held: &Held, first: &[u16], second: &[u16], inputs: u32) -> Vec<u8> {
+    let mut third: Vec<u16> = (0..inputs % 65_536).map(|k| 50_000 + (k % 256) as u16).collect();
+    let answer = add_weighings(held, first, second, &mut third);
+    let mut values = vec![answer.code, answer.step];
+    values.extend(third.iter().map(|word| u64::from(*word)));
     line_of(values.iter())
 }
 
@@ -2155,6 +2240,12 @@ impl Bench {
         plain
     }
 
+    // Two weighings added, in the one order and in the other: both leave this.
+    fn adds(&mut self, name: &str, held: &Held, first: &[u16], second: &[u16], left: &Added) {
+        self.check(name, added(held, first, second) == *left);
+        self.check(name, added(held, second, first) == *left);
+    }
+
     // A bench-run with chart A and what it prints.
     fn prints(&mut self, name: &str, trace: &[Vec<u8>], printed: &str) {
         let output = bench_run(Some(&chart_a()), &trace.concat());
@@ -2271,6 +2362,16 @@ fn selftest() {
     check_index_teeth(&mut bench);
     check_index_lines(&mut bench);
     check_index_call_lines(&mut bench);
+    check_adding_by_hand(&mut bench);
+    check_adding_edges(&mut bench);
+    check_adding_first(&mut bench);
+    check_adding_13(&mut bench);
+    check_adding_chart(&mut bench);
+    check_adding_junk(&mut bench);
+    check_adding_by_lot(&mut bench);
+    check_adding_laws(&mut bench);
+    check_adding_grouping(&mut bench);
+    check_adding_lines(&mut bench);
     check_printed(&mut bench);
     check_printed_second(&mut bench);
     check_printed_no_second(&mut bench);
@@ -4747,7 +4848,7 @@ fn check_hold_lines(b: &mut Bench) {
     let calls = [weights(6), key(7), call_bytes(6, 0, 0, 255, 0), weights(7), key(6)];
     let lines = [&set, &cleared, &set, &cleared, &set].map(|line| line.as_str()).concat();
     b.check("6 and 7, one after the other", held_lines(&calls) == (lines, true));
-    b.check("no call 11", held_lines(&[key(11)]) == ("unknown call\n".into(), true));
+    b.check("no call 12", held_lines(&[key(12)]) == ("unknown call\n".into(), true));
     let image = image_of(200);
     let mut fields = Fields::new(image.get(first..).unwrap_or(&[]));
     let mark = run_image(&mut fields).map(|run| run.hold_mark);
@@ -4949,8 +5050,9 @@ fn check_edition_next(b: &mut Bench) {
 }
 
 // All the calls on a held chart that have to do with no index: start, cycle, tally, weighing,
-// writing, shift of none, setting and clearing the mark, with what each returns and leaves if it is
-// refused: their numbers, or 99 where a refused one returns or leaves something else.
+// writing, shift of none, adding weighings, setting and clearing the mark, with what each returns
+// and leaves if it is refused: their numbers, or 99 where a refused one returns or leaves something
+// else.
 fn codes_of_calls(held: &Held, run: &Run, weights: usize) -> Vec<Code> {
     let mut outputs = vec![8; 33];
     let began = start(held, 7, &mut outputs);
@@ -4971,9 +5073,10 @@ fn codes_of_calls(held: &Held, run: &Run, weights: usize) -> Vec<Code> {
     let kept = length == 0 && bytes == vec![9; 200];
     let written = if code != 0 && !kept { 99 } else { code };
     let shifted = shift_code(held, run, [0; 3], 32, 0);
+    let adding = adding_code(held, [weights; 3], 1);
     let turned = [set_hold(held, run), clear_hold(held, run)];
     let turned = turned.iter().map(|t| if t.code != 0 && t.run != *run { 99 } else { t.code });
-    let mut codes = vec![begun, cycled, counted, weighed, written, shifted];
+    let mut codes = vec![begun, cycled, counted, weighed, written, shifted, adding];
     codes.extend(turned);
     codes
 }
@@ -4985,13 +5088,13 @@ fn check_edition_held(b: &mut Bench) {
         let wanted = if byte == 1 || byte == 2 { 0 } else { 5 };
         let held = in_edition(&held_a(), byte);
         b.check("held edition", held_code(&held) == wanted);
-        b.check("held edition, all calls", codes_of_calls(&held, &run_a(), 2) == [wanted; 8]);
+        b.check("held edition, all calls", codes_of_calls(&held, &run_a(), 2) == [wanted; 9]);
         let junk = in_edition(&held_a_with_junk(), byte);
         b.check("held edition beside junk", held_code(&junk) == wanted);
         let mut none = in_edition(&held_without_steps(), byte);
         let first = if wanted == 5 { 5 } else { 9 };
         b.check("held edition, no steps", held_code(&none) == first);
-        b.check("no steps, all calls", codes_of_calls(&none, &zero_run(), 0) == vec![first; 8]);
+        b.check("no steps, all calls", codes_of_calls(&none, &zero_run(), 0) == vec![first; 9]);
         none.counts.blocks = 257;
         b.check("4 before the edition, no steps", held_code(&none) == 4);
         let mut held = in_edition(&held_a(), byte);
@@ -5006,7 +5109,7 @@ fn check_edition_held(b: &mut Bench) {
             first.off = set_of(1);
         }
         b.check("7 before the edition", held_code(&held) == 7);
-        b.check("7, all calls", codes_of_calls(&held, &run_a(), 2) == [7; 8]);
+        b.check("7, all calls", codes_of_calls(&held, &run_a(), 2) == [7; 9]);
         if let Some(first) = held.tables.transitions.first_mut() {
             first.targets = set_of(1);
         }
@@ -5022,7 +5125,7 @@ fn check_edition_zero(b: &mut Bench) {
     let zero = Chart::default();
     b.check("an all-zero chart says 0", zero.edition == 0 && zero.steps.is_empty());
     b.check("an all-zero chart, 5", held_code(&hold(&zero)) == 5);
-    b.check("in all calls", codes_of_calls(&hold(&zero), &zero_run(), 0) == [5; 8]);
+    b.check("in all calls", codes_of_calls(&hold(&zero), &zero_run(), 0) == [5; 9]);
     let files = [
         vec![],
         end(),
@@ -5044,7 +5147,7 @@ fn check_edition_zero(b: &mut Bench) {
 // The order of every call with a chart of another edition: "Start tests 15 and then the chart; a
 // cycle tests 15, chart, 12, 11; the tally chart, 12; the weighing chart, 13, 14"; request (i):
 // "the chart's own first, then 17"; request (iii): "15, chart, 12, then 18 ...; then 11"; request
-// (vii): "chart, then 12"
+// (vii): "chart, then 12"; request (x): "chart; 13 ...; 21 ..."
 fn check_edition_order(b: &mut Bench) {
     let mut strange = run_a();
     strange.active = numbers(3);
@@ -5068,6 +5171,8 @@ fn check_edition_order(b: &mut Bench) {
         b.check("weighing, 5 before 13", weighing(&held, &[1]) == refused_weighing(5, 0));
         b.check("weighing, 5 before 14", weighing(&held, &[1, 2]) == refused_weighing(5, 0));
         b.check("writing, 5 before 17", wrote(&held, 3) == (5, 0, vec![9; 3]));
+        b.check("adding, 5 before 13", adding_code(&held, [2, 1, 2], 1) == 5);
+        b.check("adding, 5 before 21", adding_code(&held, [2; 3], u16::MAX) == 5);
         for lengths in [[0; 3], [1; 3], [1, 2, 3], [4097; 3]].iter() {
             let code = |run: &Run, lent| shift_code(&held, run, *lengths, lent, 999);
             b.check("shift, 15 first", code(&strange, 31) == 15);
@@ -5086,6 +5191,8 @@ fn check_edition_order(b: &mut Bench) {
         b.check("tally, then 12", tally(&held, &strange).code == 12);
         b.check("weighing, then 13", weighing(&held, &[1]) == refused_weighing(13, 0));
         b.check("weighing, then 14", weighing(&held, &[1, 2]) == refused_weighing(14, 0));
+        b.check("adding, then 13", adding_code(&held, [2, 1, 2], u16::MAX) == 13);
+        b.check("adding, then 21", adding_code(&held, [2; 3], u16::MAX) == 21);
         b.check("shift, then 12", shift_code(&held, &strange, [1, 2, 3], 32, 999) == 12);
         b.check("shift, then 18", shift_code(&held, &run_a(), [1, 2, 3], 32, 999) == 18);
         b.check("shift, then 11", shift_code(&held, &run_a(), [1; 3], 32, 999) == 11);
@@ -6385,7 +6492,7 @@ fn check_index_refused(b: &mut Bench) {
         b.check("building, all zeros", built.index == zeros);
         codes.insert(*code);
     }
-    b.check("every number of a chart", codes == [4, 5, 6, 7, 8, 9].into_iter().collect());
+    b.check("every number of a chart", codes == (4..10).collect());
     let mut held = held_of_all();
     let code = |held: &Held| {
         let built = build_index(held);
@@ -7203,7 +7310,7 @@ fn check_index_lines(b: &mut Bench) {
     let calls = [build(), other.clone(), call_bytes(2, 0, 0, 0, 0), other];
     let lines = [&one, &one, "0 0 0 0\n", &one].concat();
     b.check("line of 8, one after the other", lines_with(&with(&[]), &calls) == whole(lines));
-    for kind in [11, 12, 64, 255].iter() {
+    for kind in [12, 13, 64, 255].iter() {
         let unknown = lines_with(&with(&[]), &[call_bytes(*kind, 0, 0, 0, 0), build()]);
         b.check("no such call", unknown == whole(format!("unknown call\n{}", one)));
     }
@@ -7306,6 +7413,518 @@ fn check_index_call_lines(b: &mut Bench) {
     b.check("a cut list", lines_with(&image, &[call.clone(), cut(&call)]) == once(&done));
     let no_lists = shift(&right, [2; 3], &[]);
     b.check("no lists", lines_with(&image, &[call, no_lists]).0 == done);
+}
+
+// ---------------------------------------------------------------------------------------------
+// The selftest: adding weighings
+// ---------------------------------------------------------------------------------------------
+
+// What adding weighings leaves: number, step and third list.
+type Added = (Code, u64, Vec<u16>);
+
+// The third list as it is before a call of the selftest, no two words of it the same.
+fn lent_weights(count: usize) -> Vec<u16> {
+    (0..count).map(|k| 60_000u16.wrapping_sub(k as u16)).collect()
+}
+
+// Two weighings added, with so many words lent for the sum.
+fn added_into(held: &Held, first: &[u16], second: &[u16], lent: usize) -> Added {
+    let mut third = lent_weights(lent);
+    let answer = add_weighings(held, first, second, &mut third);
+    (answer.code, answer.step, third)
+}
+
+// Two weighings added, with a word lent for every step.
+fn added(held: &Held, first: &[u16], second: &[u16]) -> Added {
+    added_into(held, first, second, held.counts.steps as usize)
+}
+
+// Request (x): "... nothing written" (what a refused adding leaves, with so many words lent)
+fn refused_adding(code: Code, step: u64, lent: usize) -> Added {
+    (code, step, lent_weights(lent))
+}
+
+// The number of an adding with lists of these lengths, with this weight throughout the first and 1
+// throughout the second, if it names step 0 and a refused one leaves the third list as it was and
+// an accepted one the sums, else 99.
+fn adding_code(held: &Held, lengths: [usize; 3], weight: u16) -> Code {
+    let [first, second, lent] = lengths;
+    let answer = added_into(held, &vec![weight; first], &vec![1; second], lent);
+    let wanted = match answer.0 {
+        0 => (0, 0, vec![weight.wrapping_add(1); lent]),
+        code => refused_adding(code, 0, lent),
+    };
+    if answer == wanted { answer.0 } else { 99 }
+}
+
+// Request (x), by another way, and for any number of weighings: every step's sum in 64 bits, and
+// the least of the steps whose sum is 65,536 or more.
+fn added_otherwise(weighings: &[&[u16]], steps: usize) -> Added {
+    let of_step = |step: usize| weighings.iter().map(move |weights| u64::from(at(weights, step)));
+    let sums: Vec<u64> = (0..steps).map(|step| of_step(step).sum()).collect();
+    let beyond: Set = (0..steps).filter(|step| at(&sums, *step) >= 65_536).collect();
+    match beyond.iter().next() {
+        Some(step) => refused_adding(21, *step as u64, steps),
+        None => (0, 0, sums.iter().map(|sum| *sum as u16).collect()),
+    }
+}
+
+// Three weighings added, the first two of them first, and then the last two of them first; where
+// one of the two calls is refused, what that call leaves.
+fn grouped(held: &Held, first: &[u16], second: &[u16], third: &[u16]) -> (Added, Added) {
+    let front = match added(held, first, second) {
+        (0, _, sum) => added(held, &sum, third),
+        refused => refused,
+    };
+    let back = match added(held, second, third) {
+        (0, _, sum) => added(held, first, &sum),
+        refused => refused,
+    };
+    (front, back)
+}
+
+// Request (x): "Supply the sum, step by step, in a third lent list. If both are balanced and no
+// step's sum exceeds 65,535, the sum is balanced and its initial total is the sum of both totals"
+// (by hand)
+fn check_adding_by_hand(b: &mut Bench) {
+    let sum = |weights: &[u16]| (0, 0, weights.to_vec());
+    let total = |total| Weighing { code: 0, transition: 0, total };
+    let fork = held_steps(&[1, 0, 0], &[transition(1, 6, 0, 0, 0)]);
+    b.check("fork, 7,3,4", weighing(&fork, &[7, 3, 4]) == total(7));
+    b.adds("fork, 2,1,1 and 7,3,4", &fork, &[2, 1, 1], &[7, 3, 4], &sum(&[9, 4, 5]));
+    b.check("fork, 2 and 7 are 9", weighing(&fork, &[9, 4, 5]) == total(9));
+    let large = [40_000, 30_000, 10_000];
+    b.check("fork, large", weighing(&fork, &large) == total(40_000));
+    b.check("fork, large too", weighing(&fork, &[25_535, 535, 25_000]) == total(25_535));
+    let both = [65_535, 30_535, 35_000];
+    b.adds("fork, just fits", &fork, &large, &[25_535, 535, 25_000], &sum(&both));
+    b.check("fork, the most", weighing(&fork, &both) == total(65_535));
+    let refused = refused_adding(21, 0, 3);
+    b.adds("fork, one more", &fork, &large, &[25_536, 536, 25_000], &refused);
+    // The two need not be balanced; what one lacks the other may bring.
+    b.adds("one unbalanced", &fork, &[2, 1, 2], &[2, 1, 1], &sum(&[4, 2, 3]));
+    b.check("the sum is not", weighing(&fork, &[4, 2, 3]) == refused_weighing(14, 0));
+    b.adds("both unbalanced", &fork, &[2, 1, 2], &[2, 1, 0], &sum(&[4, 2, 2]));
+    b.check("the sum is balanced", weighing(&fork, &[4, 2, 2]) == total(4));
+    b.adds("chart A", &held_a(), &[500, 500], &[11, 11], &sum(&[511, 511]));
+    b.check("chart A, 500 and 11", weighing(&held_a(), &[511, 511]) == total(511));
+    b.adds("the least byte goes over", &held_a(), &[255, 511], &[1, 513], &sum(&[256, 1024]));
+    // Many initial steps: no sum exceeds 65,535, the totals do.
+    let all = held_steps(&[1; 64], &[]);
+    b.adds("64 halves", &all, &[32_768; 64], &[32_767; 64], &sum(&[65_535; 64]));
+    let halves = [weighing(&all, &[32_768; 64]), weighing(&all, &[32_767; 64])];
+    b.check("their totals", halves == [total(2_097_152), total(2_097_088)]);
+    b.check("64 halves, the total", weighing(&all, &[65_535; 64]) == total(4_194_240));
+    let up: Vec<u16> = (0..64).collect();
+    let down: Vec<u16> = (0..64).map(|k| 1000 * (64 - k)).collect();
+    let added: Vec<u16> = (0..64).map(|k| 64_000 - 999 * k).collect();
+    b.adds("64 different ones", &all, &up, &down, &sum(&added));
+    // A step that is not initial and in no transition is a step.
+    let alone = held_steps(&[1, 0, 0], &[]);
+    b.adds("a step by itself", &alone, &[0, 0, 8], &[0, 0, 9], &sum(&[0, 0, 17]));
+    b.adds("a step by itself, 21", &alone, &[0, 0, 65_535], &[5, 5, 1], &refused_adding(21, 2, 3));
+}
+
+// Request (x): "no step's sum exceeds 65,535"; "21 with the first step whose sum doesn't fit,
+// nothing written" (the sums 65,535 and 65,536, and others, of one step)
+fn check_adding_edges(b: &mut Bench) {
+    let one = held_steps(&[1], &[]);
+    let refused = refused_adding(21, 0, 1);
+    for weight in (0..=65_535).step_by(257) {
+        let room = 65_535 - weight;
+        b.adds("65,535", &one, &[weight], &[room], &(0, 0, vec![65_535]));
+        if let Some(more) = room.checked_add(1) {
+            b.adds("65,536", &one, &[weight], &[more], &refused);
+        }
+    }
+    b.adds("most and most", &one, &[65_535], &[65_535], &refused);
+    b.adds("half and half", &one, &[32_768], &[32_768], &refused);
+    b.adds("most and 1", &one, &[65_535], &[1], &refused);
+    b.adds("most and 0", &one, &[65_535], &[0], &(0, 0, vec![65_535]));
+    b.adds("0 and 0", &one, &[0], &[0], &(0, 0, vec![0]));
+    let edges = [0, 1, 255, 256, 257, 32_767, 32_768, 32_769, 65_279, 65_280, 65_534, 65_535];
+    for first in edges.iter() {
+        for second in edges.iter() {
+            let wanted = added_otherwise(&[&[*first], &[*second]], 1);
+            b.check("edges", added(&one, &[*first], &[*second]) == wanted);
+        }
+    }
+}
+
+// Request (x): "21 with the first step whose sum doesn't fit, nothing written" (of 64 steps, all
+// sums 65,535 but for one step, two or more)
+fn check_adding_first(b: &mut Bench) {
+    let all = held_steps(&[1; 64], &[]);
+    let first: Vec<u16> = (0..64).map(|k| 1000 * k + 1).collect();
+    let fits: Vec<u16> = first.iter().map(|weight| 65_535 - weight).collect();
+    b.adds("all just fit", &all, &first, &fits, &(0, 0, vec![65_535; 64]));
+    for k in 0..64 {
+        let refused = refused_adding(21, k as u64, 64);
+        let mut second = fits.clone();
+        put(&mut second, k, at(&fits, k) + 1);
+        b.adds("one is 65,536", &all, &first, &second, &refused);
+        for later in k + 1..64 {
+            let mut two = second.clone();
+            put(&mut two, later, 65_535);
+            b.adds("the first, not the largest", &all, &first, &two, &refused);
+        }
+        for later in k + 1..64 {
+            put(&mut second, later, at(&fits, later) + 1);
+        }
+        b.adds("all from one on", &all, &first, &second, &refused);
+    }
+    // What doesn't fit may be in either list, and by the lists' own weights the later is larger.
+    let three = held_steps(&[1, 0, 0], &[]);
+    let lists = ([9, 65_535, 65_535], [9, 1, 65_535]);
+    b.adds("step 1 of 1 and 2", &three, &lists.0, &lists.1, &refused_adding(21, 1, 3));
+    let lists = ([65_535, 1, 65_535], [1, 65_535, 0]);
+    b.adds("step 0 of 0 and 1", &three, &lists.0, &lists.1, &refused_adding(21, 0, 3));
+}
+
+// Request (x): "13 if any of the three lengths is wrong; 21 ..., nothing written" (each by itself,
+// two, and all three, the same wrong one too; with sums that fit and sums that don't)
+fn check_adding_13(b: &mut Bench) {
+    let few: Vec<usize> = (0..7).collect();
+    // 320 and 65,600 are 64 in their lowest bytes.
+    let many = vec![0, 1, 63, 64, 65, 320, 65_600];
+    for (steps, lengths) in [(1, &few), (2, &few), (3, &few), (5, &few), (64, &many)].iter() {
+        let held = held_steps(&vec![1; *steps], &[]);
+        for first in lengths.iter() {
+            for second in lengths.iter() {
+                for lent in lengths.iter() {
+                    let lists = [*first, *second, *lent];
+                    let right = lists == [*steps; 3];
+                    let wanted = if right { (0, 21) } else { (13, 13) };
+                    let codes = (adding_code(&held, lists, 7), adding_code(&held, lists, 65_535));
+                    b.check("lengths", codes == wanted);
+                }
+            }
+        }
+    }
+    // Each by itself on chart A, by hand; a sum that doesn't fit beside it.
+    let a = held_a();
+    for weight in [3, 65_535].iter() {
+        let code = |lengths| adding_code(&a, lengths, *weight);
+        b.check("the first too short", code([1, 2, 2]) == 13);
+        b.check("the first too long", code([3, 2, 2]) == 13);
+        b.check("the second too short", code([2, 1, 2]) == 13);
+        b.check("the second too long", code([2, 3, 2]) == 13);
+        b.check("the third too short", code([2, 2, 1]) == 13);
+        b.check("the third too long", code([2, 2, 3]) == 13);
+        b.check("no third", code([2, 2, 0]) == 13);
+        b.check("none at all", code([0; 3]) == 13);
+    }
+    b.check("right, and fits", adding_code(&a, [2; 3], 65_534) == 0);
+    b.check("right, and doesn't fit", adding_code(&a, [2; 3], 65_535) == 21);
+}
+
+// Request (x): "Refusals: chart; 13 if any of the three lengths is wrong; 21 ..."; document 01: "4,
+// then records by kind with 5, 6, 7, then 9, 8"; request (viii): "5 for another edition byte,
+// tested in a held chart after the cases"
+fn check_adding_chart(b: &mut Bench) {
+    let lengths = [[2; 3], [0; 3], [1; 3], [65; 3], [1, 2, 2], [2, 3, 2], [2, 2, 1], [0, 1, 64]];
+    let mut codes = BTreeSet::new();
+    for (code, held) in refused_charts().iter() {
+        for lists in lengths.iter() {
+            b.check("adding, the chart", adding_code(held, *lists, 1) == *code);
+            b.check("adding, the chart first", adding_code(held, *lists, 65_535) == *code);
+        }
+        codes.insert(*code);
+    }
+    b.check("adding, every number of a chart", codes == (4..10).collect());
+    // One fault more each time, before those already there.
+    let mut held = held_of_all();
+    b.check("adding, no fault", adding_code(&held, [4; 3], 65_534) == 0);
+    b.check("adding, 21", adding_code(&held, [4; 3], 65_535) == 21);
+    let code = |held: &Held| adding_code(held, [4, 4, 5], 65_535);
+    b.check("adding, 13 before 21", code(&held) == 13);
+    held.tables.blocks = vec![Block { step: 0, action: 0, qualifier: 3, duration: 9 }; 14];
+    b.check("adding, 8 before 13", code(&held) == 8);
+    held.tables.steps = vec![Step { initial: 0 }; 4];
+    b.check("adding, 9 before 8", code(&held) == 9);
+    held.tables.edition = 3;
+    b.check("adding, the edition before 9", code(&held) == 5);
+    held = altered(&held, 3, &|t| t.off.extend(&t.on));
+    b.check("adding, 7 before it", code(&held) == 7);
+    held = altered(&held, 2, &|t| t.targets = Set::new());
+    b.check("adding, 6 of an earlier one", code(&held) == 6);
+    held.tables.steps = vec![Step { initial: 2 }; 4];
+    b.check("adding, 5 of a step", code(&held) == 5);
+    held.counts.cases = 65;
+    b.check("adding, 4 first", code(&held) == 4);
+}
+
+// "Entries beyond a count play no part."; "13 | the number of weights is not the number of steps"
+// (steps counted, not those in the tables)
+fn check_adding_junk(b: &mut Bench) {
+    let junk = held_a_with_junk();
+    b.check("junk, two", adding_code(&junk, [2; 3], 5) == 0);
+    b.check("junk, three", adding_code(&junk, [3; 3], 5) == 13);
+    let fewer = |count: u64| {
+        let steps = held_steps(&[1, 0, 1], &[]);
+        altered_all(&steps, &|held| held.counts.steps = count)
+    };
+    for count in 1..4 {
+        for length in 0..5 {
+            let wanted = if length == count { 0 } else { 13 };
+            b.check("fewer", adding_code(&fewer(count as u64), [length; 3], 5) == wanted);
+        }
+    }
+    let full = with_full_tables(&held_of_all(), &set_of(u64::MAX));
+    b.check("full tables, 4", adding_code(&full, [4; 3], 5) == 0);
+    b.check("full tables, 64", adding_code(&full, [64; 3], 5) == 13);
+    b.check("full tables, 21", adding_code(&full, [4; 3], 65_535) == 21);
+}
+
+// A second weighing for a first one, drawn by lot: each sum is the first weight, 65,535 or any
+// between, and with one chance in so many 65,536 or more (or the first weight, if that is 0).
+fn second_by_lot(lot: &mut u64, first: &[u16], of: u64) -> Vec<u16> {
+    let mut second = Vec::new();
+    for weight in first {
+        let room = 65_535 - u64::from(*weight);
+        let beyond = next_lot(lot) % of == 0;
+        let more = match next_lot(lot) % 3 {
+            0 => 0,
+            1 => room,
+            _ => next_lot(lot) % (room + 1),
+        };
+        let more = if beyond { (room + 1 + more) % 65_536 } else { more };
+        second.push(more as u16);
+    }
+    second
+}
+
+// Request (x): "Supply the sum, step by step, in a third lent list."; "order and grouping don't
+// matter where all the sums involved fit, and the all-zero weighing changes nothing" (charts and
+// weights by lot, balanced or not, of up to 64 steps, in both editions)
+fn check_adding_by_lot(b: &mut Bench) {
+    let mut lot = 53;
+    let (mut fitted, mut refused) = (0, 0);
+    let mut named = BTreeSet::new();
+    for edition in [1, 2].repeat(100) {
+        let steps = 2 + next_lot(&mut lot) % 63;
+        let held = in_edition(&wide_by_lot(&mut lot, steps, 6), edition);
+        let count = steps as usize;
+        let zero = vec![0; count];
+        for _ in 0..4 {
+            let first: Vec<u16> = (0..count).map(|_| next_lot(&mut lot) as u16).collect();
+            let second = second_by_lot(&mut lot, &first, 2 * steps);
+            let wanted = added_otherwise(&[&first, &second], count);
+            b.adds("sum by lot", &held, &first, &second, &wanted);
+            if wanted.0 == 0 {
+                fitted += 1;
+            } else {
+                named.insert(wanted.1);
+                refused += 1;
+            }
+            b.adds("the all-zero weighing", &held, &first, &zero, &(0, 0, first.clone()));
+        }
+        b.adds("all zero twice", &held, &zero, &zero, &(0, 0, zero.clone()));
+        let nothing = Weighing { code: 0, transition: 0, total: 0 };
+        b.check("all zero, weighed", weighing(&held, &zero) == nothing);
+    }
+    b.check("some fitted, some didn't", fitted > 200 && refused > 200 && named.len() > 20);
+}
+
+// A chart drawn by lot of eight steps, with two weighings of 0 to 2 a step for which it is balanced
+// and at most eight transitions.
+fn balanced_by_lot(lot: &mut u64) -> (Held, Vec<u16>, Vec<u16>) {
+    let one: Vec<u16> = (0..8).map(|_| (next_lot(lot) % 3) as u16).collect();
+    let other: Vec<u16> = (0..8).map(|_| (next_lot(lot) % 3) as u16).collect();
+    let sum = |word: u64, weights: &[u16]| -> u16 {
+        (0..8).map(|k| (word >> k & 1) as u16 * at(weights, k)).sum()
+    };
+    let mut moves = Vec::new();
+    for _ in 0..60 {
+        let sources = few_by_lot(lot, 8);
+        let targets = few_by_lot(lot, 8) & !sources;
+        let balanced = |weights: &[u16]| sum(sources, weights) == sum(targets, weights);
+        if targets != 0 && moves.len() < 8 && balanced(&one) && balanced(&other) {
+            moves.push(transition(sources, targets, 0, 0, 0));
+        }
+    }
+    let initial: Vec<u8> = (0..7).map(|_| (next_lot(lot) % 2) as u8).collect();
+    (held_steps(&[vec![1], initial].concat(), &moves), one, other)
+}
+
+// A weighing made of two by lot: so many times the one and so many times the other, at most 65,532.
+fn mixed_by_lot(lot: &mut u64, one: &[u16], other: &[u16]) -> Vec<u16> {
+    let most = at(&[100, 11_000, 16_384, 16_384], (next_lot(lot) % 4) as usize);
+    let (times, others) = ((next_lot(lot) % most) as u16, (next_lot(lot) % most) as u16);
+    one.iter().zip(other).map(|(one, other)| times * one + others * other).collect()
+}
+
+// Request (x): "If both are balanced and no step's sum exceeds 65,535, the sum is balanced and its
+// initial total is the sum of both totals; order and grouping don't matter where all the sums
+// involved fit" (charts by lot and three balanced weighings each)
+fn check_adding_laws(b: &mut Bench) {
+    let mut lot = 59;
+    let (mut moves, mut two, mut three, mut refused) = (0, 0, 0, 0);
+    let total = |total| Weighing { code: 0, transition: 0, total };
+    for edition in [1, 2].repeat(200) {
+        let (held, one, other) = balanced_by_lot(&mut lot);
+        let held = in_edition(&held, edition);
+        moves += held.counts.transitions;
+        let first = mixed_by_lot(&mut lot, &one, &other);
+        let second = mixed_by_lot(&mut lot, &one, &other);
+        let third = mixed_by_lot(&mut lot, &one, &other);
+        let weighed = [&first, &second, &third].map(|weights| weighing(&held, weights));
+        b.check("each is balanced", weighed.iter().all(|weighed| weighed.code == 0));
+        let [of_first, of_second, of_third] = weighed.map(|weighed| weighed.total);
+        let wanted = added_otherwise(&[&first, &second], 8);
+        b.adds("sum of balanced ones", &held, &first, &second, &wanted);
+        let (code, _, sum) = added(&held, &first, &second);
+        if code == 0 {
+            b.check("balanced, both totals", weighing(&held, &sum) == total(of_first + of_second));
+            two += 1;
+        }
+        let all = added_otherwise(&[&first, &second, &third], 8);
+        let (front, back) = grouped(&held, &first, &second, &third);
+        if all.0 == 0 {
+            b.check("grouping", front == all && back == all);
+            let sum = total(of_first + of_second + of_third);
+            b.check("balanced, three totals", weighing(&held, &front.2) == sum);
+            three += 1;
+        } else {
+            b.check("either way refused", (front.0, back.0) == (21, 21));
+            refused += 1;
+        }
+    }
+    b.check("with transitions", moves > 800);
+    b.check("some fitted, some didn't", two > 100 && three > 100 && refused > 100);
+}
+
+// Request (x): "order and grouping don't matter where all the sums involved fit" (and where one
+// doesn't: weights are not negative, so if a first sum of two doesn't fit, nor does that of all
+// three, and the other way is refused 21 as well, though it may name an earlier step)
+fn check_adding_grouping(b: &mut Bench) {
+    let one = held_steps(&[1], &[]);
+    let third_part = [21_845];
+    let most = (0, 0, vec![65_535]);
+    let three = grouped(&one, &third_part, &third_part, &third_part);
+    b.check("three parts", three == (most.clone(), most));
+    let refused = refused_adding(21, 0, 1);
+    let three = grouped(&one, &third_part, &third_part, &[21_846]);
+    b.check("three parts and one", three == (refused.clone(), refused.clone()));
+    b.check("their first sums fit", added(&one, &third_part, &[21_846]) == (0, 0, vec![43_691]));
+    b.check("the front doesn't fit", added(&one, &[65_535], &[1]) == refused);
+    b.check("the back fits", added(&one, &[1], &[0]) == (0, 0, vec![1]));
+    let three = grouped(&one, &[65_535], &[1], &[0]);
+    b.check("refused with either", three == (refused.clone(), refused));
+    // The front doesn't fit at step 1; the back fits, and with it the sum doesn't at step 0.
+    let two = held_steps(&[1, 0], &[]);
+    let three = grouped(&two, &[1, 65_535], &[1, 1], &[65_534, 0]);
+    b.check("another step", three == (refused_adding(21, 1, 2), refused_adding(21, 0, 2)));
+    let three = grouped(&two, &[65_534, 0], &[1, 1], &[1, 65_535]);
+    b.check("another step behind", three == (refused_adding(21, 0, 2), refused_adding(21, 1, 2)));
+    // By lot: a way is refused where its first sum is, or else where the sum of all three is.
+    let mut lot = 61;
+    let (mut fitted, mut neither, mut front_only, mut back_only, mut another) = (0, 0, 0, 0, 0);
+    for _ in 0..1500 {
+        let count = 1 + (next_lot(&mut lot) % 6) as usize;
+        let held = held_steps(&vec![1; count], &[]);
+        let third_by_lot = |lot: &mut u64| -> Vec<u16> {
+            let most = at(&[1000, 30_000, 60_000], (next_lot(lot) % 3) as usize);
+            (0..count).map(|_| (next_lot(lot) % most) as u16).collect()
+        };
+        let first = third_by_lot(&mut lot);
+        let second = third_by_lot(&mut lot);
+        let third = third_by_lot(&mut lot);
+        let all = added_otherwise(&[&first, &second, &third], count);
+        let front = added_otherwise(&[&first, &second], count);
+        let back = added_otherwise(&[&second, &third], count);
+        match (front.0, back.0) {
+            (0, 0) if all.0 == 0 => fitted += 1,
+            (0, 0) => neither += 1,
+            (21, 0) => front_only += 1,
+            (0, 21) => back_only += 1,
+            _ => {}
+        }
+        let last = |first_sum: Added| if first_sum.0 == 0 { all.clone() } else { first_sum };
+        let wanted = (last(front), last(back));
+        another += usize::from(wanted.0.1 != wanted.1.1);
+        b.check("grouped by lot", grouped(&held, &first, &second, &third) == wanted);
+    }
+    b.check("all fitted, or only all three didn't", fitted > 100 && neither > 100);
+    b.check("one first sum didn't", front_only > 100 && back_only > 100 && another > 50);
+}
+
+// For the command line: two bytes each, least byte first.
+fn two_bytes(values: &[u16]) -> Vec<u8> {
+    values.iter().flat_map(|value| value.to_le_bytes().to_vec()).collect()
+}
+
+// For the command line: a call of adding weighings, with so many words lent.
+fn adding_bytes(first: &[u16], second: &[u16], lent: u32) -> Vec<u8> {
+    let fixed = call_bytes(11, second.len() as u32, lent, 0, first.len() as u8);
+    [fixed, two_bytes(first), two_bytes(second)].concat()
+}
+
+// For the command line: the lines of adding weighings, by hand.
+fn check_adding_lines(b: &mut Bench) {
+    let whole = |line: &str| (line.to_string(), true);
+    // Two steps; transition 0 from 0 to 1.
+    let two: &[(usize, u8)] = &[(0, 2), (16, 1), (264, 1), (776, 2)];
+    let with = |more: &[(usize, u8)]| image_with(&[two, more].concat());
+    let image = with(&[]);
+    let line = |first: &[u16], second: &[u16], lent: u32| {
+        lines_with(&image, &[adding_bytes(first, second, lent)])
+    };
+    b.check("line of 11", line(&[3, 500], &[4, 600], 2) == whole("0 0 7 1100\n"));
+    b.check("line of 11, bytes", line(&[258, 1], &[768, 0], 2) == whole("0 0 1026 1\n"));
+    b.check("line of 11, most", line(&[65_535, 1], &[0, 65_534], 2) == whole("0 0 65535 65535\n"));
+    b.check("line of 11, 21", line(&[65_535, 1], &[1, 1], 2) == whole("21 0 50000 50001\n"));
+    b.check("line of 11, step 1", line(&[1, 65_535], &[1, 1], 2) == whole("21 1 50000 50001\n"));
+    b.check("line of 11, both", line(&[9, 9], &[65_535; 2], 2) == whole("21 0 50000 50001\n"));
+    b.check("line of 11, first", line(&[9], &[65_535; 2], 2) == whole("13 0 50000 50001\n"));
+    b.check("line of 11, second", line(&[9; 2], &[65_535; 3], 2) == whole("13 0 50000 50001\n"));
+    b.check("line of 11, third", line(&[9; 2], &[65_535; 2], 1) == whole("13 0 50000\n"));
+    let longer = "13 0 50000 50001 50002\n";
+    b.check("line of 11, third longer", line(&[9; 2], &[9; 2], 3) == whole(longer));
+    b.check("line of 11, no words", line(&[9; 2], &[9; 2], 0) == whole("13 0\n"));
+    b.check("line of 11, nothing", line(&[], &[], 0) == whole("13 0\n"));
+    // Long lists, and words beyond number 255.
+    let long = line(&[9; 2], &[9; 2], 258).0;
+    b.check("line of 11, word 256", long.ends_with(" 50254 50255 50000 50001\n"));
+    let words: String = (0..65_535).map(|k| format!(" {}", 50_000 + k % 256)).collect();
+    let long = line(&[9; 255], &[9; 65_535], 65_535);
+    b.check("line of 11, the longest", long == whole(&format!("13 0{}\n", words)));
+    // 64 steps.
+    let up: Vec<u16> = (0..64).collect();
+    let sums: String = (0..64).map(|k| format!(" {}", 1000 + k)).collect();
+    let wide = lines_with(&with(&[(0, 64)]), &[adding_bytes(&up, &[1000; 64], 64)]);
+    b.check("line of 11, 64 steps", wide == whole(&format!("0 0{}\n", sums)));
+    // The chart first; the run, its hold mark, the edition 2 and the lent outputs play no part.
+    let refused: [(Code, &[(usize, u8)]); 6] = [
+        (4, &[(0, 65)]),
+        (5, &[(4552, 3)]),
+        (6, &[(264, 0)]),
+        (7, &[(1288, 1), (1800, 1)]),
+        (9, &[(40, 0)]),
+        (8, &[(24, 2), (3081, 3)]),
+    ];
+    for (code, bytes) in refused.iter() {
+        let right = adding_bytes(&[1, 2], &[3, 65_535], 2);
+        let lines = lines_with(&with(bytes), &[right, adding_bytes(&[1], &[65_535], 0)]);
+        b.check("line of 11, chart", lines == whole(&format!("{0} 0 50000 50001\n{0} 0\n", code)));
+    }
+    let strange = with(&[(4552, 2), (4564, 255), (4996, 9)]);
+    let call = adding_bytes(&[1, 2], &[3, 4], 2);
+    b.check("line of 11, any run", lines_with(&strange, &[call.clone()]) == whole("0 0 4 6\n"));
+    // Only the two lowest bytes of clock and inputs count, the lent outputs don't.
+    let lists = [two_bytes(&[1, 2]), two_bytes(&[3, 4])].concat();
+    let high = [call_bytes(11, 0xabcd_0002, 0xffff_0002, 33, 2), lists.clone()].concat();
+    b.check("line of 11, two bytes", lines_with(&image, &[high.clone()]) == whole("0 0 4 6\n"));
+    // One case after the other, beside weighings, and cut lists.
+    let weighed = [call_bytes(3, 2, 2, 0, 2), two_bytes(&[6, 6])].concat();
+    let none = adding_bytes(&[], &[1], 1);
+    let calls = [high, weighed.clone(), call.clone(), none, weighed, call.clone()];
+    let lines = "0 0 4 6\n0 0 6\n0 0 4 6\n13 0 50000\n0 0 6\n0 0 4 6\n";
+    b.check("line of 11, one after the other", lines_with(&image, &calls) == whole(lines));
+    for less in 1..9 {
+        let cut = call.get(..call.len() - less).unwrap_or(&[]).to_vec();
+        b.check("line of 11, cut", lines_with(&image, &[call.clone(), cut]).0 == "0 0 4 6\n");
+    }
 }
 
 // ---------------------------------------------------------------------------------------------
