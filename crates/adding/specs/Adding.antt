@@ -19,9 +19,12 @@ sumAt first second k = getD first k 0 + getD second k 0
 unfoldable pub sums : ℕ → List ℕ → List ℕ → List ℕ
 sums n first second = table (sumAt first second) n
 
+abbrev pub fitsAt : List ℕ → List ℕ → ℕ → Bool
+fitsAt first second k = leb (sumAt first second k) 65535
+
 -- "the first step whose sum doesn't fit": one more than its number, 0 if all fit
 unfoldable pub unfit : ℕ → List ℕ → List ℕ → ℕ
-unfit n first second = firstCode (λ k. unless (leb (sumAt first second k) 65535) (k + 1)) n
+unfit n first second = firstCode (λ k. unless (fitsAt first second k) (k + 1)) n
 
 -- not "if any of the three lengths is wrong"
 abbrev pub areLong : ℕ → ℕ → ℕ → ℕ → Bool

@@ -1,8 +1,10 @@
 // The sum of two weighings, step by step.
 ghost use Prim.Native.Nat.{_+_, _≤_};
+ghost use mathlib.Core.Bool.{true};
 ghost use mathlib.Core.Path.{_≡_};
 ghost use lib.ListN.{length};
-ghost use Rattle.adding.specs.Adding.{areLong, unfit, sums, addedAs, addedAfter, addOf, sumAfter, sumOf};
+ghost use Rattle.sets.specs.Loops.{all};
+ghost use Rattle.adding.specs.Adding.{fitsAt, areLong, unfit, sums, addedAs, addedAfter, addOf, sumAfter, sumOf};
 use crate::codes::SUM_TOO_LARGE;
 use chart::Chart;
 use tally::codes::WRONG_WEIGHTS;
@@ -32,7 +34,21 @@ fn together(first: u16, second: u16) -> u32
     first as u32 + second as u32
 }
 
-// One more than the number of the first step whose sum doesn't fit, 0 if there is none.
+// Whether every sum fits: a pass without a branch.
+fn all_fit(n: usize, first: &[u16], second: &[u16]) -> bool
+    requires { ⌜ (n ≤ length (now first)) × (n ≤ length (now second)) ⌝ }
+    ensures { λ r. ⌜ r ≡ all (fitsAt (now (first .entry)) (now (second .entry))) n ⌝ }
+{
+    let mut fit = true;
+    let mut k = 0;
+    while k < n {
+        fit = fit & (together(first[k], second[k]) <= 65535);
+        k += 1;
+    }
+    fit
+}
+
+// One more than the number of the first step whose sum doesn't fit, 0 if there is none. Asked for only where there is one.
 fn unfit(n: usize, first: &[u16], second: &[u16]) -> usize
     requires { ⌜ (n ≤ length (now first)) × (n ≤ length (now second)) ⌝ }
     ensures { λ r. ⌜ r ≡ unfit n (now (first .entry)) (now (second .entry)) ⌝ }
@@ -55,7 +71,7 @@ fn fitting(first: u16, second: u16) -> u16
 }
 
 fn write_sums(first: &[u16], second: &[u16], sum: &mut [u16])
-    requires { ⌜ (length (now sum) ≤ length (now first)) × (length (now sum) ≤ length (now second)) × (unfit (length (now sum)) (now first) (now second) ≡ 0) ⌝ }
+    requires { ⌜ (length (now sum) ≤ length (now first)) × (length (now sum) ≤ length (now second)) × (all (fitsAt (now first) (now second)) (length (now sum)) ≡ true) ⌝ }
     ensures { λ _. ⌜ now (sum .exit) ≡ sums (length (now (sum .entry))) (now (first .entry)) (now (second .entry)) ⌝ }
 {
     let mut k = 0;
@@ -75,9 +91,8 @@ pub fn add_after(held: u8, n: usize, first: &[u16], second: &[u16], sum: &mut [u
     if !are_long(n, first.len(), second.len(), sum.len()) {
         return answer(WRONG_WEIGHTS, 0);
     }
-    let above = unfit(n, first, second);
-    if above != 0 {
-        return answer(SUM_TOO_LARGE, above - 1);
+    if !all_fit(n, first, second) {
+        return answer(SUM_TOO_LARGE, unfit(n, first, second) - 1);
     }
     write_sums(first, second, sum);
     answer(0, 0)

@@ -2,19 +2,21 @@
 use Prim.Native.Nat.{ℕ, _+_, _-_, _≤_, _<_}
 use mathlib.Core.Bool.{Bool, true, false}
 use mathlib.Core.List.{List}
-use mathlib.Core.Path.{_≡_, refl, _∙_}
+use mathlib.Core.Path.{_≡_, refl, sym, _∙_}
 use native.Mathlib.Omega.{arith}
-use borrow.Author.Tests.{le-leb, lt-leb, leb-true, eqb-true, ne-eqb}
-use lib.Dec.{leb, eqb}
+use borrow.Author.Tests.{le-leb, lt-leb, eqb-true, ne-eqb}
+use lib.Dec.{eqb}
 use lib.ListN.{length}
-use Rattle.sets.proofs.Loops.{and-true, first-zero}
+use Rattle.sets.specs.Loops.{all}
+use Rattle.sets.proofs.Below.{never}
+use Rattle.sets.proofs.Loops.{and-true, all-same, true-all, first-zero, zero-first}
 use Rattle.fields.specs.Fields.{unless}
-use Rattle.adding.specs.Adding.{sumAt, sums, unfit, areLong, addedAs, addedAfter, sumAfter}
+use Rattle.adding.specs.Adding.{sumAt, fitsAt, sums, unfit, areLong, addedAs, addedAfter, sumAfter}
 use Rattle.adding.specs.declared.adding.Added.{Added}
 
 -- one more than the number of step k if its sum doesn't fit
 abbrev pub codeAt : List ℕ → List ℕ → ℕ → ℕ
-codeAt first second k = unless (leb (sumAt first second k) 65535) (k + 1)
+codeAt first second k = unless (fitsAt first second k) (k + 1)
 
 module _ (first second : List ℕ) (k : ℕ) {sum : ℕ} (e : sum ≡ sumAt first second k) where
   pub fits : sum ≤ 65535 → codeAt first second k ≡ 0
@@ -23,14 +25,23 @@ module _ (first second : List ℕ) (k : ℕ) {sum : ℕ} (e : sum ≡ sumAt firs
   pub too-large : 65535 < sum → k + 1 ≡ codeAt first second k
   too-large h = rw (lt-leb _ 65535 (rw e at h))
 
--- where none is too large each fits
-pub each-fits : (n : ℕ) (first second : List ℕ) → unfit n first second ≡ 0 → (k : ℕ) → k < n → sumAt first second k ≤ 65535
+-- where all fit none is too large
+pub all-fit : (n : ℕ) (first second : List ℕ) → all (fitsAt first second) n ≡ true → unfit n first second ≡ 0
 unfolding unfit
-each-fits n first second h k l = leb-true _ 65535 (by (leb (sumAt first second k) 65535) (first-zero (codeAt first second) n h k l))
+all-fit n first second h = zero-first (codeAt first second) n (all-same (λ k. eqb (codeAt first second k) 0) (fitsAt first second) n (λ k l. by k (fitsAt first second k)) ∙ h)
   where
-    by : (b : Bool) → unless b (k + 1) ≡ 0 → b ≡ true
-    by true e = refl
-    by false e = absurd (omega arith)
+    by : (k : ℕ) (b : Bool) → eqb (unless b (k + 1)) 0 ≡ b
+    by k true = refl
+    by k false = ne-eqb (k + 1) 0 (λ z. omega arith)
+
+-- and where some do not, one is
+pub some-unfit : (n : ℕ) (first second : List ℕ) → all (fitsAt first second) n ≡ false → unfit n first second ≡ 0 → ⊥
+unfolding unfit
+some-unfit n first second h z = never (sym h ∙ true-all (fitsAt first second) n (λ k l. by k (fitsAt first second k) (first-zero (codeAt first second) n z k l)))
+  where
+    by : (k : ℕ) (b : Bool) → unless b (k + 1) ≡ 0 → b ≡ true
+    by k true e = refl
+    by k false e = absurd (omega arith)
 
 -- what the test of the three lengths tells
 pub long : (n first second lent : ℕ) → areLong n first second lent ≡ true → (first ≡ n) × (second ≡ n) × (lent ≡ n)
@@ -53,10 +64,10 @@ module _ (n : ℕ) (first second sum : List ℕ) {r : Added} where
   pub by-length : areLong n (length first) (length second) (length sum) ≡ false → r ≡ addedAs 13 0 → Answered 0 n first second sum r sum
   by-length h e = (e ∙ rw h, rw h)
 
-  pub by-sum : areLong n (length first) (length second) (length sum) ≡ true → (above : ℕ) → above ≡ unfit n first second → (above ≡ 0 → ⊥) → r ≡ addedAs 21 (above - 1)
+  pub by-sum : areLong n (length first) (length second) (length sum) ≡ true → all (fitsAt first second) n ≡ false → (above : ℕ) → above ≡ unfit n first second → r ≡ addedAs 21 (above - 1)
       → Answered 0 n first second sum r sum
-  by-sum h above u z e = let q = ne-eqb (unfit n first second) 0 (λ x. z (u ∙ x)) in (e ∙ rw (h, q, u), rw (h, q))
+  by-sum h f above u e = let q = ne-eqb (unfit n first second) 0 (some-unfit n first second f) in (e ∙ rw (h, q, u), rw (h, q))
 
-  pub added : areLong n (length first) (length second) (length sum) ≡ true → unfit n first second ≡ 0 → r ≡ addedAs 0 0 → (now : List ℕ) → now ≡ sums n first second
+  pub added : areLong n (length first) (length second) (length sum) ≡ true → all (fitsAt first second) n ≡ true → r ≡ addedAs 0 0 → (now : List ℕ) → now ≡ sums n first second
       → Answered 0 n first second sum r now
-  added h u e now w = (e ∙ rw (h, u), w ∙ rw (h, u))
+  added h f e now w = let u = all-fit n first second f in (e ∙ rw (h, u), w ∙ rw (h, u))

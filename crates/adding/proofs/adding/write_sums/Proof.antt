@@ -2,11 +2,10 @@
 use Prim.Native.Nat.{_-_}
 use mathlib.Core.Path.{refl}
 use native.Mathlib.Omega.{arith}
-use denote.Ref.{now}
+use borrow.Author.Tests.{leb-true}
 use lib.ListN.{length}
-use Rattle.sets.proofs.Loops.{Written, written-start, written-turn, written-end}
+use Rattle.sets.proofs.Loops.{all-true, Written, written-start, written-turn, written-end}
 use Rattle.adding.specs.Adding.{sumAt, sums}
-use Rattle.adding.proofs.adding.Laws.{each-fits}
 use Rattle.adding.proofs.adding.write_sums.Statement.{statement}
 use Rattle.adding.proofs.adding.write_sums.Tie as tie
 
@@ -33,9 +32,9 @@ shared-slice-read-fitting-2 c = omega arith
 
 fitting-requires : tie.Need-fitting-requires Inv-loop μ-loop
 fitting-requires c κs =
-    let a = c .before .before .before .before .before .before .before .args in
     let l = c .before .before .before in
-    each-fits (length (now (a .sum))) (now (a .first)) (now (a .second)) (c .before .before .before .before .before .before .before .pre .2) (l .loop .k) (omega (arith, l .loop .inv .long))
+    let s = l .before .before .before .before in
+    leb-true _ 65535 (all-true _ _ (s .pre .2) (l .loop .k) (omega (arith, l .loop .inv .long)))
 
 mul-sum : tie.Need-mul-sum Inv-loop μ-loop
 mul-sum c = omega arith
