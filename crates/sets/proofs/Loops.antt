@@ -154,6 +154,14 @@ else-zero a b = go (eqb a 0) refl
     go true e h = (eqb-true a 0 e, h)
     go false e h = absurd (eqb-false a 0 e h)
 
+-- and 0 behind a number changes nothing
+pub else-none : (a : ℕ) → orElse a 0 ≡ a
+else-none a = go (eqb a 0) refl
+  where
+    go : (b : Bool) → eqb a 0 ≡ b → cond b 0 a ≡ a
+    go true e = sym (eqb-true a 0 e)
+    go false e = refl
+
 module _ (f : ℕ → ℕ) where
   pub first-start : firstCode f 0 ≡ 0
   unfolding firstCode

@@ -9,7 +9,7 @@ use lib.ListN.{length, getD, set, getD-replicate}
 use lib.Dec.{leb, eqb}
 use borrow.Author.Tests.{eq-eqb, ne-eqb, eqb-true, eqb-false}
 use Rattle.sets.specs.Loops.{orElse, turns}
-use Rattle.sets.proofs.Loops.{else-zero, turns-start, turns-more, turns-still, length-table}
+use Rattle.sets.proofs.Loops.{else-none, else-zero, turns-start, turns-more, turns-still, length-table}
 use Rattle.fields.specs.Fields.{unless}
 use Rattle.chart.specs.Held.{chartCode}
 use Rattle.chart.specs.declared.chart.Chart.{Chart}
@@ -75,13 +75,6 @@ module _ (c : Chart) (first : Run) (clocks inputs words : List ℕ) (out : List 
   all-made d n e h q = q ∙ rw (e, h)
 
 -- ---- with an index, or without (document 02, request ix)
-
-pub else-none : (a : ℕ) → orElse a 0 ≡ a
-else-none a = go (eqb a 0) refl
-  where
-    go : (b : Bool) → eqb a 0 ≡ b → cond b 0 a ≡ a
-    go true e = sym (eqb-true a 0 e)
-    go false e = refl
 
 -- four numbers in their order, by the first three
 by-three : (a h x o : ℕ) → orElse a (orElse (orElse h x) o) ≡ cond (eqb (orElse a (orElse h x)) 0) (orElse a (orElse h o)) (orElse a (orElse h x))

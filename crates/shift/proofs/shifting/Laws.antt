@@ -10,7 +10,7 @@ use lib.Seq.{take-length}
 use lib.Dec.{leb, eqb}
 use borrow.Author.Tests.{leb-true, eqb-true, eqb-false, ne-eqb}
 use Rattle.sets.specs.Loops.{orElse}
-use Rattle.sets.proofs.Loops.{and-true, else-zero}
+use Rattle.sets.proofs.Loops.{else-none, and-true, else-zero}
 use Rattle.fields.specs.Fields.{unless}
 use Rattle.chart.specs.declared.chart.Chart.{Chart}
 use Rattle.run.specs.Apart.{runOf}
@@ -19,7 +19,7 @@ use Rattle.run.specs.declared.run.Run.{Run}
 use Rattle.cycle.specs.Cycling.{readyCode, indexedCode}
 use Rattle.cycle.specs.Calling.{Calls, noCalls, singly, callsOn, callsBy, InParts, inParts}
 use Rattle.cycle.proofs.cycling.Laws.{stops}
-use Rattle.cycle.proofs.calling.Laws.{else-none, none-called, parts-long, put-back, none-indexed}
+use Rattle.cycle.proofs.calling.Laws.{none-called, parts-long, put-back, none-indexed}
 use Rattle.shift.specs.Shifting.{Done, answerOf, doneOf, listsFit, listsCode, clocksTaken, shiftCode, shiftOf, shiftBy}
 
 -- lists that fit

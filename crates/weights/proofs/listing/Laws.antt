@@ -1,19 +1,16 @@
 -- One line more, and the end of the text.
 use Prim.Native.Nat.{ℕ, zero, suc, _+_, _-_, _≤_, _<_}
-use mathlib.Core.Bool.{Bool, true, false, cond}
 use mathlib.Core.List.{List, [], _∷_, _++_, append-nil}
 use mathlib.Core.Path.{_≡_, refl, sym, ap, _∙_}
 use native.Mathlib.Nat.{min-eq-right}
 use native.Mathlib.Numerals.{add-one}
 use native.Mathlib.Omega.{arith}
-use lib.Dec.{eqb}
 use lib.ListN.{length, take, drop, length-take, drop-of-length-le}
 use lib.Seq.{drop-drop, take-nil}
-use borrow.Author.Tests.{eqb-true}
 use Rattle.sets.specs.Bytes.{Put}
 use Rattle.sets.specs.Loops.{orElse, firstCode, turns}
 use Rattle.sets.proofs.Bytes.{put-none, put-put, put-kept}
-use Rattle.sets.proofs.Loops.{capped, turns-more, turns-still}
+use Rattle.sets.proofs.Loops.{else-none, capped, turns-more, turns-still}
 use Rattle.weights.specs.Words.{isOf, leading, wordSays, saysOf}
 use Rattle.weights.specs.Listing.{leftBehind, saysAt, isFaulty, weightOf, faultIn, weightsIn}
 use Rattle.weights.specs.declared.words.Class.the-variants.{Line}
@@ -28,14 +25,6 @@ take-both (suc n) [] u = let all : suc n - 0 ≡ suc n = omega arith in rw all
 take-both (suc n) (x ∷ t) u =
     let less : suc n - suc (length (take n t)) ≡ n - length (take n t) = omega arith in
     rw less (ap (λ (l : List ℕ). x ∷ l) (take-both n t u))
-
--- 0 changes nothing
-else-none : (a : ℕ) → orElse a 0 ≡ a
-else-none a = go (eqb a 0) refl
-  where
-    go : (b : Bool) → eqb a 0 ≡ b → cond b 0 a ≡ a
-    go true e = sym (eqb-true a 0 e)
-    go false e = refl
 
 -- what does not change from m on is at n what it is at m
 settled : {A : Type 0} (f : ℕ → A) (m n : ℕ) → m ≤ n → ((k : ℕ) → m ≤ k → f (suc k) ≡ f k) → f m ≡ f n

@@ -11,7 +11,7 @@ use lib.Seq.{drop-cons, take-all}
 use borrow.Author.Tests.{eq-eqb, ne-eqb, leb-true, le-leb}
 use Rattle.sets.proofs.Loops.{bool-eq, and-true}
 use Rattle.weights.specs.Words.{isOf, leading, value, isWeight, wordSays, saysOf}
-use Rattle.weights.specs.declared.words.Class.the-variants.{Said, Blank, Digit}
+use Rattle.weights.specs.declared.words.Class.the-variants.{Text, Blank, Digit}
 use Rattle.weights.specs.declared.words.Said.the-variants.{Nothing, Weight, Faulty}
 
 -- ---- how many bytes at the front are so: i of them have passed
@@ -91,6 +91,6 @@ module _ (word : List ℕ) (n m number : ℕ) (d : n ≡ leading (isOf Digit) wo
     says-faulty t = rw (ne-eqb _ _ some, ← tested, t)
 
 -- ---- what a line says: n bytes before its comment, of which m blanks come first
-pub says-line : (line : List ℕ) (n m : ℕ) → n ≡ leading (isOf Said) line → m ≡ leading (isOf Blank) (take n line) → wordSays (from m (take n line)) ≡ saysOf line
+pub says-line : (line : List ℕ) (n m : ℕ) → n ≡ leading (isOf Text) line → m ≡ leading (isOf Blank) (take n line) → wordSays (from m (take n line)) ≡ saysOf line
 unfolding saysOf
 says-line line n m e b = rw (rest m (take n line), b, e)
