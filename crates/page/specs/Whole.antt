@@ -12,6 +12,7 @@ use Rattle.tally.specs.Weighing.{weighOf}
 use Rattle.page.specs.Page.{tooLong, faultLine, pageFor, pageLine}
 use Rattle.page.specs.declared.page.Heard.{Heard}
 
+-- the chart's refusal, that of the text, of a line of it, or the page of its weights
 abbrev pub pageOf : List ℕ → List ℕ → List ℕ
 pageOf file input =
     cond (eqb (readChart file .code) 0)

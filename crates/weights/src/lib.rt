@@ -1,4 +1,4 @@
-// Weights as text, one a line (docs/DECISIONS.md, "Weights as text").
+// Weights as text, one a line (docs/DECISIONS.md, "The page of a weighing").
 pub mod listing;
 pub mod words;
 

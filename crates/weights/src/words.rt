@@ -7,7 +7,7 @@ ghost use Rattle.weights.specs.Words.{isOf, leading, value, wordSays, sa
 // The kinds of bytes: those before a line end, those before a comment, blanks, and digits.
 pub enum Class {
     Line,
-    Said,
+    Text,
     Blank,
     Digit,
 }
@@ -24,7 +24,7 @@ fn is_of(class: Class, b: u8) -> bool
 {
     match class {
         Class::Line => b != 10,
-        Class::Said => b != 35,
+        Class::Text => b != 35,
         Class::Blank => (b == 9) | (b == 13) | (b == 32),
         Class::Digit => (48 <= b) & (b <= 57),
     }
@@ -98,6 +98,6 @@ fn word_says(word: &[u8]) -> Said
 pub fn says(line: &[u8]) -> Said
     ensures { λ r. ⌜ r ≡ saysOf (now (line .entry)) ⌝ }
 {
-    let body = &line[..leading(Class::Said, line)];
+    let body = &line[..leading(Class::Text, line)];
     word_says(&body[leading(Class::Blank, body)..])
 }
