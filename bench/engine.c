@@ -669,3 +669,35 @@ enum tw_code c_shift_by(const struct tw_chart *c, const struct tw_index *x, stru
 {
 	return shift(c, x, r, clocks, nclocks, inputs, ninputs, words, nwords, outputs, lent, accepted);
 }
+
+/* Request (x): one pass, which the compiler makes vectors of, for the sums and whether one is too large, which is then less than either weight. The
+   first such one is looked for only where there is one. */
+static inline enum tw_code add(size_t n, const uint16_t *first, const uint16_t *second, uint16_t *sum, size_t *step)
+{
+	uint16_t own[TW_STEPS], above = 0;
+	for (size_t k = 0; k < n; k++) {
+		own[k] = (uint16_t)(first[k] + second[k]);
+		above |= own[k] < first[k];
+	}
+	if (above) {
+		size_t k = 0;
+		while (own[k] >= first[k])
+			k++;
+		*step = k;
+		return TW_SUM_TOO_LARGE;
+	}
+	memcpy(sum, own, n * sizeof *own);
+	return TW_ACCEPTED;
+}
+
+enum tw_code c_add(const struct tw_chart *c, const uint16_t *first, size_t nfirst, const uint16_t *second, size_t nsecond, uint16_t *sum, size_t nsum,
+	size_t *step)
+{
+	*step = 0;
+	enum tw_code code = c_test(c);
+	if (code)
+		return code;
+	if (nfirst != c->steps || nsecond != c->steps || nsum != c->steps)
+		return TW_WRONG_WEIGHTS;
+	return add(c->steps, first, second, sum, step);
+}

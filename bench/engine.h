@@ -20,5 +20,7 @@ enum tw_code c_cycle_by(const struct tw_chart *chart, const struct tw_index *ind
 	int32_t *outputs, size_t lent, uint64_t *taken, uint8_t reasons[TW_TRANSITIONS]);
 enum tw_code c_shift_by(const struct tw_chart *chart, const struct tw_index *index, struct tw_run *run, const uint32_t *clocks, size_t nclocks,
 	const uint32_t *inputs, size_t ninputs, uint64_t *activities, size_t nactivities, int32_t *outputs, size_t lent, size_t *accepted);
+enum tw_code c_add(const struct tw_chart *chart, const uint16_t *first, size_t nfirst, const uint16_t *second, size_t nsecond, uint16_t *sum,
+	size_t nsum, size_t *step);
 
 #endif

@@ -11,11 +11,12 @@
      bench held-shift  CHART ENGINE SEED N  N cycles of such a run, at most 4,096, in one shift
      bench turned  CHART ENGINE SEED N      N cycles, at most 4,096, singly and in shifts, with and without an index, and the key turned between them
      bench index   CHART ENGINE SEED N      N indexes built
+     bench adding  CHART ENGINE SEED N      N additions of two weighings that fit
      bench reads   CHART ENGINE SEED N      N readings of the chart's bytes
      bench tests   CHART ENGINE SEED N      N tests of the held chart
      bench writes  CHART ENGINE SEED N      N writings of the held chart
      bench time    CHART SEED N             nanoseconds of both for one of N cycles and of N in one shift, without and with an index and with the key set
-                                            (N at most 3,996), of N indexes, N readings, N tests and N writings, and their ratios
+                                            (N at most 3,996), of N indexes, N additions, N readings, N tests and N writings, and their ratios
 
    Charts and inputs are made at run time from the seed, and both engines are compiled apart from this file, so that no call is folded away. */
 #include "engine.h"
@@ -331,6 +332,23 @@ static void some_stretches(int exact)
 	}
 }
 
+/* Two weighings. A list may be lent with one weight more than there are steps at most; it is refused then, and the last one is never read. */
+enum { WEIGHTS = TW_STEPS + 1 };
+static uint16_t weighings[2][WEIGHTS];
+
+/* Sums that fit, one in four of them just so; with `above` now and then one that does not, by 1 or by more. */
+static void some_weights(int above)
+{
+	for (size_t k = 0; k < WEIGHTS; k++) {
+		uint32_t sum = any(4) ? any(UINT16_MAX + 1) : UINT16_MAX;
+		if (above && any(40) == 0)
+			sum = UINT16_MAX + 1 + any(2) * any(UINT16_MAX);
+		uint32_t least = sum > UINT16_MAX ? sum - UINT16_MAX : 0;
+		weighings[0][k] = (uint16_t)(least + any(sum + 1 - 2 * least));
+		weighings[1][k] = (uint16_t)(sum - weighings[0][k]);
+	}
+}
+
 /* The chart of a name; with -2 behind it, in edition 2. */
 static void chart_of(const char *name, struct file *f)
 {
@@ -369,13 +387,14 @@ struct engine {
 		uint8_t *);
 	enum tw_code (*shift_by)(const struct tw_chart *, const struct tw_index *, struct tw_run *, const uint32_t *, size_t, const uint32_t *, size_t,
 		uint64_t *, size_t, int32_t *, size_t, size_t *);
+	enum tw_code (*add)(const struct tw_chart *, const uint16_t *, size_t, const uint16_t *, size_t, uint16_t *, size_t, size_t *);
 	unsigned with;
 };
 
 static const struct engine PROVED = { tw_read, tw_test, tw_write, tw_start, tw_cycle, tw_shift, tw_hold, tw_release, tw_index, tw_cycle_by,
-	tw_shift_by, WITH_PROVED };
+	tw_shift_by, tw_add, WITH_PROVED };
 static const struct engine PLAIN = { c_read, c_test, c_write, c_start, c_cycle, c_shift, c_hold, c_release, c_index, c_cycle_by, c_shift_by,
-	WITH_PLAIN };
+	c_add, WITH_PLAIN };
 
 /* All that calls answer or leave: numbers, what was counted, the chart, its index and the run, and what was lent. */
 struct bench {
@@ -388,6 +407,8 @@ struct bench {
 	uint64_t activities[ROOM + 1];
 	uint8_t file[8192];
 	uint8_t reasons[TW_TRANSITIONS];
+	size_t step;
+	uint16_t weights[WEIGHTS];
 };
 
 static void blank(struct bench *b)
@@ -473,6 +494,26 @@ static void make_stretches(const struct engine *e, uint32_t n, struct bench *b)
 	}
 }
 
+/* By how many the two weighings, and the list lent for their sum, are longer than the chart has steps; beyond the room they begin at none again. And
+   how many additions the library accepted, and refused by 13 and by 21. */
+static uint32_t more[3];
+static uint32_t added, uneven, too_large;
+
+static void make_sums(const struct engine *e, uint32_t n, struct bench *b)
+{
+	enum tw_code code = TW_ACCEPTED;
+	size_t lengths[3];
+	for (int i = 0; i < 3; i++)
+		lengths[i] = (b->chart.steps + more[i]) % (WEIGHTS + 1);
+	for (uint32_t i = 0; i < n; i++)
+		b->sum += code = e->add(&b->chart, weighings[0], lengths[0], weighings[1], lengths[1], b->weights, lengths[2], &b->step);
+	if (e->with == WITH_PROVED) {
+		added += code == TW_ACCEPTED ? n : 0;
+		uneven += code == TW_WRONG_WEIGHTS ? n : 0;
+		too_large += code == TW_SUM_TOO_LARGE ? n : 0;
+	}
+}
+
 /* By how many a shift's lists are cut; and how many bytes are lent to be written. */
 static uint32_t cut[3];
 static size_t lent = sizeof ((struct bench *)0)->file;
@@ -511,6 +552,8 @@ static void measure(const char *what, const struct engine *e, const struct file 
 	} else if (!strcmp(what, "index")) {
 		for (uint32_t i = 0; i < n; i++)
 			b->sum += e->index(&b->chart, &b->index);
+	} else if (!strcmp(what, "adding")) {
+		make_sums(e, n, b);
 	} else if (!strcmp(what, "reads")) {
 		for (uint32_t i = 0; i < n; i++)
 			b->sum += e->read(f->bytes, f->size, &b->chart, &b->place);
@@ -637,8 +680,15 @@ static int compare(uint32_t count)
 			cut[i] = any(20) ? 0 : any(n + 1);
 		held_first = any(4) == 0;
 		some_stretches(is_fresh() && !index_by);
+		some_weights(any(2) == 0);
+		for (int i = 0; i < 3; i++)
+			more[i] = any(12) ? 0 : any(2) ? any(WEIGHTS + 1) : any(2) ? 1 : WEIGHTS;
+		/* all of one length, mostly not the chart's */
+		if (any(12) == 0)
+			more[1] = more[2] = more[0] = any(WEIGHTS + 1);
 		if (!same_by("cycles", "cycles-by", &f, any(60)) || !same_by("shift", "shift-by", &f, n) || !same("turned", &f, any(200))
-			|| !same("reads", &f, 1 + any(2)) || !same("tests", &f, any(3)) || !same("writes", &f, 1 + any(2))) {
+			|| !same("reads", &f, 1 + any(2)) || !same("tests", &f, any(3)) || !same("writes", &f, 1 + any(2))
+			|| !same("adding", &f, 1)) {
 			printf("chart %u\n", k);
 			return 1;
 		}
@@ -646,8 +696,9 @@ static int compare(uint32_t count)
 		second += chart.edition == 2;
 		altered += chart.edition != 0 && index_by != 0;
 	}
-	printf("%u charts, %u of them accepted, %u of these in edition 2: all answers equal, with an index and without; %u with a bit of it altered\n", count,
-		accepted, second, altered);
+	printf("%u charts, %u of them accepted, %u of these in edition 2: all answers equal, with an index and without; %u with a bit of it "
+		"altered; of one addition on each %u accepted, %u refused by 13 and %u by 21\n",
+		count, accepted, second, altered, added, uneven, too_large);
 	return 0;
 }
 
@@ -731,12 +782,13 @@ int main(int argc, char **argv)
 		return soak((uint32_t)strtoul(argv[3], NULL, 10), (uint32_t)strtoul(argv[4], NULL, 10));
 	}
 	if (argc == 5 && !strcmp(argv[1], "time")) {
-		static const char *const what[] = { "cycles", "cycles-by", "shift", "shift-by", "held-cycles", "held-shift", "index", "reads", "tests",
-			"writes" };
+		static const char *const what[] = { "cycles", "cycles-by", "shift", "shift-by", "held-cycles", "held-shift", "index", "adding", "reads",
+			"tests", "writes" };
 		uint32_t n = (uint32_t)strtoul(argv[4], NULL, 10);
 		state = strtoull(argv[3], NULL, 10);
 		chart_of(argv[2], &f);
 		some_inputs((uint32_t)any_word(), 0, BEFORE + (n > COUNTED ? ROOM : COUNTED));
+		some_weights(0);
 		for (size_t i = 0; i < sizeof what / sizeof *what; i++) {
 			double proved = time_of(what[i], &PROVED, &f, n), c = time_of(what[i], &PLAIN, &f, n);
 			printf("%s %.1f %.1f %.2f\n", what[i], 1e9 * proved / n, 1e9 * c / n, proved / c);
@@ -751,6 +803,8 @@ int main(int argc, char **argv)
 		some_inputs((uint32_t)any_word(), 0, BEFORE + (n > COUNTED ? ROOM : COUNTED));
 		if (!strcmp(argv[1], "turned"))
 			some_stretches(1);
+		if (!strcmp(argv[1], "adding"))
+			some_weights(0);
 		if (!strcmp(argv[3], "both")) {
 			if (is_by(argv[1]))
 				return !same_by(!strcmp(argv[1], "cycles-by") ? "cycles" : "shift", argv[1], &f, n);
