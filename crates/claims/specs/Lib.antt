@@ -9,6 +9,7 @@ pub mod Ledger
 pub mod Marks
 pub mod Moves
 pub mod Numbers
+pub mod Pages
 pub mod Pulses
 pub mod Reasons
 pub mod Held
