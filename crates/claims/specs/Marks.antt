@@ -10,7 +10,7 @@ use lib.Dec.{eqb, leb}
 use borrow.Author.Tests.{eqb-true, ne-eqb}
 use Rattle.sets.specs.Loops.{some, summed, counted}
 use Rattle.sets.specs.Sets.{has, union, collect}
-use Rattle.sets.proofs.Loops.{or-true, or-false, else-zero}
+use Rattle.sets.proofs.Loops.{or-true, or-false, none-some, else-zero}
 use Rattle.sets.proofs.Members.{has-zero, has-collect}
 use Rattle.sets.proofs.Below.{has-union}
 use Rattle.fields.specs.Fields.{unless}
@@ -67,12 +67,6 @@ pub some-is : (p : ℕ → Bool) (n : ℕ) (b : Bool) → counted p n ≡ one b 
 some-is p n true e = some-counted p n ∙ rw e
 some-is p n false e = some-counted p n ∙ rw e
 
--- p holds of no number, so of none below n
-some-none : (p : ℕ → Bool) (n : ℕ) → ((k : ℕ) → p k ≡ false) → some p n ≡ false
-unfolding some
-some-none p zero h = refl
-some-none p (suc n) h = rw (some-none p n h, h n)
-
 -- ---- one call
 
 module _ (c : Chart) (passes : chartCode c ≡ 0) (i : ℕ) (l : i < c .cases) where
@@ -124,7 +118,7 @@ module _ (c : Chart) (passes : chartCode c ≡ 0) (i : ℕ) (l : i < c .cases) w
   -- of one that takes no transition and leaves the marks as they are: a refused one, and the key
   still-marks : (r : Run) (signals : ℕ) (o : Cycled) → o .taken ≡ 0 → o .run .good ≡ r .good → o .run .bad ≡ r .bad → Marked r signals o
   still-marks r signals o n g b =
-      let e : ran 0 ≡ false = some-none (λ t. has 0 t && has (getD (c .sources) t 0) step) (c .transitions) (λ t. ap (λ (b : Bool). b && has (getD (c .sources) t 0) step) (has-zero t)) in
+      let e : ran 0 ≡ false = none-some (λ t. has 0 t && has (getD (c .sources) t 0) step) (c .transitions) (λ t l. ap (λ (b : Bool). b && has (getD (c .sources) t 0) step) (has-zero t)) in
       record {
         good = rw (n, g) (sym (ap (λ (b : Bool). has (r .good) i || b && fine signals) e ∙ or-false (has (r .good) i)));
         bad = rw (n, b) (sym (ap (λ (b : Bool). has (r .bad) i || b && not (fine signals)) e ∙ or-false (has (r .bad) i)));

@@ -111,16 +111,21 @@ pub some-turn : (p : ℕ → Bool) (k : ℕ) {any b : Bool} → any ≡ some p k
 unfolding some
 some-turn p k e h = rw (add-one, e, h)
 
+pub neither : (x y : Bool) → x || y ≡ false → (x ≡ false) × (y ≡ false)
+neither true y e = (e, (cc))
+neither false y e = (refl, e)
+
 pub some-none : (p : ℕ → Bool) (n : ℕ) → some p n ≡ false → (k : ℕ) → k < n → p k ≡ false
 unfolding some
 some-none p zero h k l = absurd (omega arith)
 some-none p (suc n) h k l =
     let both = neither (some p n) (p n) h in
     ⊎-elim (λ e. ap p e ∙ both .1) (λ m. some-none p n (both .0) k m) (eq-or-lt-of-le (le-of-suc-le-suc l))
-  where
-    neither : (x y : Bool) → x || y ≡ false → (x ≡ false) × (y ≡ false)
-    neither true y e = (e, (cc))
-    neither false y e = (refl, e)
+
+pub none-some : (p : ℕ → Bool) (n : ℕ) → ((k : ℕ) → k < n → p k ≡ false) → some p n ≡ false
+unfolding some
+none-some p zero f = refl
+none-some p (suc n) f = rw (none-some p n (λ k l. f k (omega arith)), f n (omega arith))
 
 pub some-same : (p q : ℕ → Bool) (n : ℕ) → ((k : ℕ) → k < n → p k ≡ q k) → some p n ≡ some q n
 unfolding some

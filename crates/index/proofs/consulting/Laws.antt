@@ -9,7 +9,7 @@ use lib.Dec.{leb, ltb, eqb}
 use borrow.Author.Tests.{eqb-true, eqb-false, ltb-true, lt-ltb, le-ltb, leb-true, leb-false}
 use Rattle.sets.specs.Loops.{all, some, turns}
 use Rattle.sets.specs.Sets.{has, Within, collect, union, minus, beyond, first, among}
-use Rattle.sets.proofs.Loops.{and-true, and-no, or-false, or-true, all-true, true-all, all-same, some-none, some-same}
+use Rattle.sets.proofs.Loops.{and-true, and-no, or-false, or-true, all-true, true-all, all-same, some-none, none-some, some-same}
 use Rattle.sets.proofs.Members.{has-zero, has-collect, has-not, collect-same, by-members}
 use Rattle.sets.proofs.Least.{first-has, first-lt}
 use Rattle.sets.proofs.Below.{within-has, never}
@@ -60,11 +60,6 @@ pub same-index : (n : ℕ) (sources index own : List ℕ) (r : Bool) → length 
 same-index n sources index own r l e h = h ∙ rw l (all-same _ _ 64 (λ k m. ap (eqb (getD index k 0)) (ap (λ (o : List ℕ). getD o k 0) e ∙ index-at sources n k m)))
 
 -- ---- what is consulted is enough
-
-none-some : (p : ℕ → Bool) (n : ℕ) → ((k : ℕ) → k < n → p k ≡ false) → some p n ≡ false
-unfolding some
-none-some p zero f = refl
-none-some p (suc n) f = rw (none-some p n (λ k l. f k (omega arith)), f n (omega arith))
 
 module _ (n : ℕ) (sources index : List ℕ) (active : ℕ) (c : consultable n sources index ≡ true) where
   abbrev set : ℕ
