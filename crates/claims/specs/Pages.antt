@@ -1,8 +1,8 @@
 -- Issue 25: "every pair of steps that together weigh more and so are never active together": what the page of a weighing (page/specs/Page.antt) shows of two
 -- steps, and that it is so.
-use Prim.Native.Nat.{ℕ, _+_, _≤_, _<_}
-use mathlib.Core.Bool.{true, false, cond, _&&_, _||_}
-use mathlib.Core.List.{List}
+use Prim.Native.Nat.{ℕ, _+_, _*_, _/_, _%_, _≤_, _<_}
+use mathlib.Core.Bool.{Bool, true, false, cond, _&&_, _||_, not-eq-not}
+use mathlib.Core.List.{List, []}
 use mathlib.Core.Logic.{_↔_}
 use mathlib.Core.Path.{_≡_, refl}
 use native.Mathlib.Omega.{arith}
@@ -17,7 +17,7 @@ use Rattle.chart.specs.declared.chart.Chart.{Chart}
 use Rattle.chart.proofs.held.Sound.{sound}
 use Rattle.cycle.specs.Cycling.{startOf}
 use Rattle.tally.specs.Weighing.{weight, weightIn, weighOf}
-use Rattle.page.specs.Page.{both, isApart}
+use Rattle.page.specs.Page.{both, isApart, pairLine, pairAt}
 use Rattle.claims.specs.Added.{tested}
 use Rattle.claims.specs.Runs.{Call, after, begun}
 use Rattle.claims.specs.Sums.{sum-none}
@@ -27,12 +27,17 @@ use Rattle.claims.specs.Weights.{weighed-apart}
 abbrev pub Heavier : Chart → List ℕ → ℕ → ℕ → Type 0
 Heavier c weights i j = (i < j) × (j < c .steps) × (weighOf c weights .total < getD weights i 0 + getD weights j 0)
 
+-- what the page has for the pair i, j
+abbrev pub lineFor : Chart → List ℕ → ℕ → ℕ → List ℕ
+lineFor c weights i j = pairAt weights (weighOf c weights .total) (i * 64 + j)
+
 -- of weights that the weighing accepts
 pub record Shown (c : Chart) (weights : List ℕ) (i j : ℕ) : Type 0 where
-  -- the page has a line for a pair exactly if it is heavier
-  pub exactly : (isApart i j weights (weighOf c weights .total) ≡ true) ↔ Heavier c weights i j
+  -- "every pair .. that together weigh more" has its line, and no other pair has one
+  pub line : Heavier c weights i j → lineFor c weights i j ≡ pairLine i j weights
+  pub none : j < 64 → (Heavier c weights i j → ⊥) → lineFor c weights i j ≡ []
   -- "and so are never active together", from an accepted start over any calls
-  pub apart : isApart i j weights (weighOf c weights .total) ≡ true → (clock lent : ℕ) → startOf c clock lent .code ≡ 0 → (xs : List Call)
+  pub apart : Heavier c weights i j → (clock lent : ℕ) → startOf c clock lent .code ≡ 0 → (xs : List Call)
       → has (after c (begun c clock lent) xs .active) i ≡ true → has (after c (begun c clock lent) xs .active) j ≡ true → ⊥
 
 -- ---- what two steps weigh
@@ -67,16 +72,24 @@ test-is weights i j total most = (there, λ h. rw (pair-weighs weights i j (h .0
         let m = ltb-true j (length weights) (y .1) in
         (l, m, rw (pair-weighs weights i j l (omega arith)) at (ltb-true total (weightIn weights (both i j)) (x .1)))
 
+-- a pair's line by that test
+line-is : (weights : List ℕ) (total i j : ℕ) (b : Bool) → j < 64 → isApart i j weights total ≡ b → pairAt weights total (i * 64 + j) ≡ cond b (pairLine i j weights) []
+unfolding pairAt
+line-is weights total i j b l e =
+    let high : (i * 64 + j) / 64 ≡ i = omega arith in
+    let low : (i * 64 + j) % 64 ≡ j = omega arith in
+    rw (high, low, e)
+
 -- ---- the theorem
 
 pub shown : (c : Chart) (weights : List ℕ) → weighOf c weights .code ≡ 0 → (i j : ℕ) → Shown c weights i j
 shown c weights e i j =
     let most = sound c (tested c weights e .0) .limits .steps in
     let long = tested c weights e .1 in
-    let is = test-is weights i j (weighOf c weights .total) (omega arith) in
+    let total = weighOf c weights .total in
+    let is = test-is weights i j total (omega arith) in
     record {
-      exactly = (λ h. (is .0 h .0, omega (arith, is .0 h .1), omega (arith, is .0 h .2)), λ h. is .1 (h .0, omega arith, omega arith));
-      apart = λ h clock lent s xs.
-          let x = is .0 h in
-          weighed-apart c weights e clock lent s xs i j (omega (arith, x .0, x .1)) (omega (arith, x .1)) (λ z. omega (arith, x .0)) (x .2);
+      line = λ h. line-is weights total i j true (omega arith) (is .1 (h .0, omega arith, omega arith));
+      none = λ l z. line-is weights total i j false l (not-eq-not .0 (λ h. z (is .0 h .0, omega (arith, is .0 h .1), omega (arith, is .0 h .2))));
+      apart = λ h clock lent s xs. weighed-apart c weights e clock lent s xs i j (omega arith) (h .1) (λ z. omega arith) (h .2);
     }
