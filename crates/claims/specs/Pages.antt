@@ -1,24 +1,25 @@
 -- Issue 25: "every pair of steps that together weigh more and so are never active together": what the page of a weighing (page/specs/Page.antt) shows of two
 -- steps, and that it is so.
 use Prim.Native.Nat.{ℕ, _+_, _*_, _/_, _%_, _≤_, _<_}
-use mathlib.Core.Bool.{Bool, true, false, cond, _&&_, _||_, not-eq-not}
+use mathlib.Core.Bool.{Bool, true, false, cond, _&&_, not-eq-not}
 use mathlib.Core.List.{List, []}
 use mathlib.Core.Logic.{_↔_}
 use mathlib.Core.Path.{_≡_, refl}
 use native.Mathlib.Omega.{arith}
 use lib.ListN.{length, getD}
-use lib.Dec.{eqb, ltb}
+use lib.Dec.{ltb}
 use borrow.Author.Tests.{eq-eqb, ne-eqb, lt-ltb, ltb-true}
 use Rattle.sets.specs.Sets.{has, insert}
 use Rattle.sets.proofs.Counts.{summed-less}
 use Rattle.sets.proofs.Loops.{and-true, or-false}
-use Rattle.sets.proofs.Members.{has-zero, has-collect}
+use Rattle.sets.proofs.Members.{has-zero}
 use Rattle.chart.specs.declared.chart.Chart.{Chart}
 use Rattle.chart.proofs.held.Sound.{sound}
 use Rattle.cycle.specs.Cycling.{startOf}
 use Rattle.tally.specs.Weighing.{weight, weightIn, weighOf}
 use Rattle.page.specs.Page.{both, isApart, pairLine, pairAt}
 use Rattle.claims.specs.Added.{tested}
+use Rattle.claims.specs.Moves.{has-insert}
 use Rattle.claims.specs.Runs.{Call, after, begun}
 use Rattle.claims.specs.Sums.{sum-none}
 use Rattle.claims.specs.Weights.{weighed-apart}
@@ -27,7 +28,7 @@ use Rattle.claims.specs.Weights.{weighed-apart}
 abbrev pub Heavier : Chart → List ℕ → ℕ → ℕ → Type 0
 Heavier c weights i j = (i < j) × (j < c .steps) × (weighOf c weights .total < getD weights i 0 + getD weights j 0)
 
--- what the page has for the pair i, j
+-- what the page has for the pair i, j, whose number there is i * 64 + j
 abbrev pub lineFor : Chart → List ℕ → ℕ → ℕ → List ℕ
 lineFor c weights i j = pairAt weights (weighOf c weights .total) (i * 64 + j)
 
@@ -46,8 +47,8 @@ pub record Shown (c : Chart) (weights : List ℕ) (i j : ℕ) : Type 0 where
 one-more : (w : ℕ → ℕ) (s k : ℕ) → k < 64 → has s k ≡ false → weight w (insert s k) ≡ weight w s + w k
 one-more w s k l out =
     summed-less _ _ 64 k (w k) l
-    (λ j m d. rw (has-collect (λ j. has s j || eqb j k) 64 j m, ne-eqb j k d, or-false (has s j)))
-    (rw (has-collect (λ j. has s j || eqb j k) 64 k l, out, eq-eqb k k refl) (omega arith))
+    (λ j m d. rw (has-insert s k j m, ne-eqb j k d, or-false (has s j)))
+    (rw (has-insert s k k l, out, eq-eqb k k refl) (omega arith))
 
 -- two steps weigh the sum of their weights
 pair-weighs : (weights : List ℕ) (i j : ℕ) → i < j → j < 64 → weightIn weights (both i j) ≡ getD weights i 0 + getD weights j 0
@@ -56,7 +57,7 @@ pair-weighs weights i j l m =
     let w : ℕ → ℕ = λ k. getD weights k 0 in
     let none = sum-none (λ k. cond (has 0 k) (w k) 0) 64 (λ k q. rw (has-zero k)) in
     let first = one-more w 0 i (omega arith) (has-zero i) in
-    let other : has (insert 0 i) j ≡ false = rw (has-collect (λ k. has 0 k || eqb k i) 64 j m, has-zero j, ne-eqb j i (λ z. omega arith)) in
+    let other : has (insert 0 i) j ≡ false = rw (has-insert 0 i j m, has-zero j, ne-eqb j i (λ z. omega arith)) in
     omega (arith, none, first, one-more w (insert 0 i) j m other)
 
 -- so the page's test is of that sum
@@ -91,5 +92,5 @@ shown c weights e i j =
     record {
       line = λ h. line-is weights total i j true (omega arith) (is .1 (h .0, omega arith, omega arith));
       none = λ l z. line-is weights total i j false l (not-eq-not .0 (λ h. z (is .0 h .0, omega (arith, is .0 h .1), omega (arith, is .0 h .2))));
-      apart = λ h clock lent s xs. weighed-apart c weights e clock lent s xs i j (omega arith) (h .1) (λ z. omega arith) (h .2);
+      apart = λ h clock lent s xs. weighed-apart c weights e clock lent s xs i j (omega arith) (omega arith) (λ z. omega arith) (omega arith);
     }
