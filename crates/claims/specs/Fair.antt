@@ -15,16 +15,15 @@ use Rattle.chart.specs.declared.chart.Chart.{Chart}
 use Rattle.chart.proofs.held.Sound.{sound}
 use Rattle.choice.specs.Choice.{noneTaken}
 use Rattle.run.specs.Run.{noRun}
-use Rattle.run.specs.Belongs.{ownCode}
 use Rattle.run.specs.declared.run.Run.{Run}
 use Rattle.passes.specs.Moving.{signalsOf}
-use Rattle.cycle.specs.Cycling.{refused, startCode, cycleCode, started, startOf, countsAt, choiceOf, cycled}
+use Rattle.cycle.specs.Cycling.{refused, startCode, started, startOf, countsAt, choiceOf, cycled}
 use Rattle.cycle.specs.declared.cycling.Cycled.{Cycled}
 use Rattle.cycle.proofs.cycling.Laws.{cycle-passed}
-use Rattle.key.specs.Turning.{markOf, marked, turnedAs, turnOf}
+use Rattle.key.specs.Turning.{markOf, marked, turnedAs}
 use Rattle.claims.specs.AtLeast.{AtLeast}
 use Rattle.claims.specs.Moves.{among, Chosen, none-is, choice-is, moved}
-use Rattle.claims.specs.Runs.{Call, cycle, turn, keyed, answer, begun, one}
+use Rattle.claims.specs.Runs.{Call, keyed, answer, each-answer, begun, one}
 
 -- an answer o to a call that was given the run r: accepted, each step's arrivals plus its activity before are its departures plus its activity
 -- after, by the taken transitions, and in the second edition at least that; refused, the run is the one that was given; and what is taken is a
@@ -51,9 +50,13 @@ fair-cycled c r clock inputs h =
       existing = i .new;
     }
 
--- the key, accepted, leaves the active steps as they are and takes nothing; refused, it returns the run
-fair-keyed : (held : Bool) (c : Chart) (r : Run) → Fair c r (keyed (turnOf held c r))
-fair-keyed held c r = go (eqb (ownCode c r) 0) refl
+-- the key, accepted, leaves the active steps as they are and takes nothing
+fair-keyed : (held : Bool) (c : Chart) (r : Run) → Fair c r (keyed (turnedAs 0 (marked (markOf held) r)))
+fair-keyed held c r = record {
+  accepted = λ z k l. stays k (among (c .targets) (c .transitions) 0 k) (among (c .sources) (c .transitions) 0 k) (i .enters k l) (i .leaves k l);
+  back = λ z. absurd (z refl);
+  existing = i .new;
+}
   where
     i : Chosen (c .edition) (c .sources) (c .targets) (r .active) (c .transitions) noneTaken
     i = none-is (c .edition) (c .transitions) (c .sources) (c .targets) (r .active)
@@ -62,23 +65,12 @@ fair-keyed held c r = go (eqb (ownCode c r) 0) refl
     stays : (k x y : ℕ) → AtLeast (c .edition) x (one (has 0 k)) → y ≡ one (has 0 k) → AtLeast (c .edition) (x + one (has (r .active) k)) (y + one (has (r .active) k))
     stays k x y h e = record { least = omega (arith, h .least, e); equal = λ q. omega (arith, h .equal q, e) }
 
-    go : (b : Bool) → eqb (ownCode c r) 0 ≡ b → Fair c r (keyed (cond b (turnedAs 0 (marked (markOf held) r)) (turnedAs (ownCode c r) r)))
-    go true e = record {
-      accepted = λ z k l. stays k (among (c .targets) (c .transitions) 0 k) (among (c .sources) (c .transitions) 0 k) (i .enters k l) (i .leaves k l);
-      back = λ z. absurd (z refl);
-      existing = i .new;
-    }
-    go false e = fair-refused c r (ownCode c r) (eqb-false _ 0 e)
-
 -- every answer is so, whatever the chart, the run and the call
 pub fair : (c : Chart) (r : Run) (x : Call) → Fair c r (answer c r x)
-fair c r (turn held) = fair-keyed held c r
-fair c r (cycle x) = go (eqb (cycleCode c r (x .clock) (x .lent)) 0) refl
-  where
-    go : (b : Bool) → eqb (cycleCode c r (x .clock) (x .lent)) 0 ≡ b
-        → Fair c r (cond b (cycled c r (x .clock) (x .inputs)) (refused (cycleCode c r (x .clock) (x .lent)) r))
-    go true e = fair-cycled c r (x .clock) (x .inputs) (sound c (cycle-passed c r (x .clock) (x .lent) (eqb-true _ 0 e) .chart) .limits .transitions)
-    go false e = fair-refused c r (cycleCode c r (x .clock) (x .lent)) (eqb-false _ 0 e)
+fair c r =
+    each-answer (λ x o. Fair c r o) c r
+    (λ x e. fair-cycled c r (x .clock) (x .inputs) (sound c (cycle-passed c r (x .clock) (x .lent) e .chart) .limits .transitions))
+    (λ held. fair-keyed held c r) (λ x code z. fair-refused c r code z)
 
 -- an accepted start makes the initial steps active, of a chart of at most 64 steps
 pub record Begins (c : Chart) (r : Run) : Type 0 where

@@ -18,15 +18,15 @@ use Rattle.chart.specs.Held.{chartCode}
 use Rattle.chart.specs.declared.chart.Chart.{Chart}
 use Rattle.chart.proofs.held.Sound.{sound}
 use Rattle.run.specs.Run.{noRun}
-use Rattle.run.specs.Belongs.{belongs, ownCode}
+use Rattle.run.specs.Belongs.{belongs}
 use Rattle.run.specs.declared.run.Run.{Run}
 use Rattle.passes.specs.Moving.{signalsOf, asExpected, marksOf}
-use Rattle.cycle.specs.Cycling.{refused, startCode, cycleCode, started, startOf, countsAt, choiceOf, cycled}
+use Rattle.cycle.specs.Cycling.{refused, startCode, started, startOf, countsAt, choiceOf, cycled}
 use Rattle.cycle.specs.declared.cycling.Cycled.{Cycled}
 use Rattle.cycle.proofs.cycling.Kept.{cycle-keeps}
 use Rattle.key.specs.Turning.{markOf, marked, turnedAs}
 use Rattle.key.proofs.turning.Laws.{key-keeps}
-use Rattle.claims.specs.Runs.{Call, cycle, turn, keyed, answer, inputsOf, after, begun, one}
+use Rattle.claims.specs.Runs.{Call, cycle, turn, keyed, answer, each-answer, inputsOf, after, begun, one}
 use Rattle.claims.specs.Moves.{choice-is}
 
 -- ---- the marks x and y of a case, in terms of how its step was left: a at all, g with the signal as expected, b with it otherwise
@@ -126,16 +126,11 @@ module _ (c : Chart) (passes : chartCode c ≡ 0) (i : ℕ) (l : i < c .cases) w
 
   -- and so of any
   pub marks : (r : Run) (x : Call) → Marked r (signalsOf (inputsOf x) (r .activity)) (answer c r x)
-  marks r (turn held) = go (eqb (ownCode c r) 0)
-    where
-      go : (b : Bool) → Marked r (signalsOf 0 (r .activity)) (keyed (cond b (turnedAs 0 (marked (markOf held) r)) (turnedAs (ownCode c r) r)))
-      go true = still-marks r (signalsOf 0 (r .activity)) _ refl refl refl
-      go false = still-marks r (signalsOf 0 (r .activity)) _ refl refl refl
-  marks r (cycle x) = go (eqb (cycleCode c r (x .clock) (x .lent)) 0)
-    where
-      go : (b : Bool) → Marked r (signalsOf (x .inputs) (r .activity)) (cond b (cycled c r (x .clock) (x .inputs)) (refused (cycleCode c r (x .clock) (x .lent)) r))
-      go true = accepted-marks r (x .clock) (x .inputs)
-      go false = still-marks r (signalsOf (x .inputs) (r .activity)) (refused (cycleCode c r (x .clock) (x .lent)) r) refl refl refl
+  marks r =
+      each-answer (λ x o. Marked r (signalsOf (inputsOf x) (r .activity)) o) c r
+      (λ x e. accepted-marks r (x .clock) (x .inputs))
+      (λ held. still-marks r (signalsOf 0 (r .activity)) (keyed (turnedAs 0 (marked (markOf held) r))) refl refl refl)
+      (λ x code z. still-marks r (signalsOf (inputsOf x) (r .activity)) (refused code r) refl refl refl)
 
 -- ---- an accepted start, and the calls after it
 

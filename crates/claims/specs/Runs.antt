@@ -2,15 +2,18 @@
 use Prim.Native.Nat.{ℕ, zero, suc, _+_}
 use mathlib.Core.Bool.{Bool, true, false, cond}
 use mathlib.Core.List.{List, [], _∷_, _++_}
+use mathlib.Core.Path.{_≡_, refl}
 use lib.ListN.{getD}
 use lib.Dec.{eqb}
+use borrow.Author.Tests.{eqb-true, eqb-false}
 use Rattle.sets.specs.Sets.{has}
 use Rattle.chart.specs.declared.chart.Chart.{Chart}
+use Rattle.run.specs.Belongs.{ownCode}
 use Rattle.run.specs.declared.run.Run.{Run}
 use Rattle.passes.specs.Explaining.{noReasons}
-use Rattle.cycle.specs.Cycling.{startOf, cycleOf}
+use Rattle.cycle.specs.Cycling.{refused, cycleCode, startOf, cycled, cycleOf}
 use Rattle.cycle.specs.declared.cycling.Cycled.{Cycled}
-use Rattle.key.specs.Turning.{turnOf}
+use Rattle.key.specs.Turning.{markOf, marked, turnedAs, turnOf}
 use Rattle.key.specs.declared.turning.Turned.{Turned}
 
 -- one cycle: the clock, the inputs, and how many outputs are lent
@@ -38,6 +41,24 @@ keyed o = record { code = o .code; taken = 0; reasons = noReasons; run = o .run 
 abbrev pub answer : Chart → Run → Call → Cycled
 answer c r (cycle x) = cycleOf c r (x .clock) (x .inputs) (x .lent)
 answer c r (turn held) = keyed (turnOf held c r)
+
+-- what holds of an accepted cycle, of an accepted turn of the key and of a refusal holds of every answer
+pub each-answer : (P : Call → Cycled → Type 0) (c : Chart) (r : Run)
+    → ((x : Cycle) → cycleCode c r (x .clock) (x .lent) ≡ 0 → P (cycle x) (cycled c r (x .clock) (x .inputs)))
+    → ((held : Bool) → P (turn held) (keyed (turnedAs 0 (marked (markOf held) r))))
+    → ((x : Call) (code : ℕ) → (code ≡ 0 → ⊥) → P x (refused code r))
+    → (x : Call) → P x (answer c r x)
+each-answer P c r cycles turns refuses (cycle x) = go (eqb (cycleCode c r (x .clock) (x .lent)) 0) refl
+  where
+    go : (b : Bool) → eqb (cycleCode c r (x .clock) (x .lent)) 0 ≡ b
+        → P (cycle x) (cond b (cycled c r (x .clock) (x .inputs)) (refused (cycleCode c r (x .clock) (x .lent)) r))
+    go true e = cycles x (eqb-true _ 0 e)
+    go false e = refuses (cycle x) (cycleCode c r (x .clock) (x .lent)) (eqb-false _ 0 e)
+each-answer P c r cycles turns refuses (turn held) = go (eqb (ownCode c r) 0) refl
+  where
+    go : (b : Bool) → eqb (ownCode c r) 0 ≡ b → P (turn held) (keyed (cond b (turnedAs 0 (marked (markOf held) r)) (turnedAs (ownCode c r) r)))
+    go true e = turns held
+    go false e = refuses (turn held) (ownCode c r) (eqb-false _ 0 e)
 
 -- the inputs of a call; the key has none
 abbrev pub inputsOf : Call → ℕ
