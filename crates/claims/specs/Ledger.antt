@@ -77,7 +77,7 @@ ledger-from c r (x ∷ xs) k l = go (eqb (answer c r x .code) 0) refl (ledger-fr
         record { least = omega (arith, stays, i .least); equal = λ q. omega (arith, stays, i .equal q) }
 
 -- a step of the chart is active at the start if it is initial
-initial-has : (n : ℕ) (initial : List ℕ) (k : ℕ) → k < n → has (initialSet n initial) k ≡ initialAt initial k
+pub initial-has : (n : ℕ) (initial : List ℕ) (k : ℕ) → k < n → has (initialSet n initial) k ≡ initialAt initial k
 unfolding initialSet
 initial-has n initial k l = has-collect (initialAt initial) n k l
 

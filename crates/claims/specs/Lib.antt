@@ -2,6 +2,7 @@ pub mod Added
 pub mod Additions
 pub mod Answers
 pub mod AtLeast
+pub mod Counters
 pub mod Editions
 pub mod Fair
 pub mod Indexes
@@ -15,6 +16,7 @@ pub mod Reasons
 pub mod Held
 pub mod Runs
 pub mod Shifts
+pub mod Stored
 pub mod Sums
 pub mod Tally
 pub mod Unique

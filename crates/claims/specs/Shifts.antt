@@ -40,6 +40,7 @@ use Rattle.claims.specs.Fair.{fair}
 use Rattle.claims.specs.Ledger.{ledger, ledger-at-least}
 use Rattle.claims.specs.Numbers.{ready-each, cycle-each, left-alone, rest-kept}
 use Rattle.claims.specs.Runs.{Call, cycle, answer, after, history, one, arrivals, departures, begun}
+use Rattle.claims.specs.Stored.{setBy, resetBy, setSince, lastSet, stored-since, stored-last}
 use Rattle.claims.specs.Tally.{tallied, tally-counts}
 use Rattle.claims.specs.Weights.{Balanced, initialWeight, never-rises, never-together}
 
@@ -313,3 +314,12 @@ module _ (c : Chart) (clock lent : ℕ) (e : startOf c clock lent .code ≡ 0) (
   pub shift-apart : (w : ℕ → ℕ) → Balanced c w → (i j : ℕ) → i < c .steps → j < c .steps → (i ≡ j → ⊥) → initialWeight c w < w i + w j
       → has (reached-run .active) i ≡ true → has (reached-run .active) j ≡ true → ⊥
   shift-apart w b = rw (entries-after c (begun c clock lent) es) (never-together c clock lent e w b calls)
+
+  -- and so does request (xi), in both its forms
+  pub shift-stored : (a : ℕ) → a < c .actions
+      → has (reached-run .stored) a ≡ setSince (setBy c (startOf c clock lent) calls a) (resetBy c (startOf c clock lent) calls a) (suc (length calls))
+  shift-stored a l = rw (entries-after c (begun c clock lent) es) (stored-since c clock lent e calls a l)
+
+  pub shift-stored-last : (a : ℕ) → a < c .actions
+      → has (reached-run .stored) a ≡ lastSet (setBy c (startOf c clock lent) calls a) (resetBy c (startOf c clock lent) calls a) (suc (length calls))
+  shift-stored-last a l = rw (entries-after c (begun c clock lent) es) (stored-last c clock lent e calls a l)
