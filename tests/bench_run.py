@@ -1,7 +1,7 @@
 #!/usr/bin/env python3
 """The program bench_run, run on charts and traces and compared with what documents 01 and 02 say it prints.
 
-  tests/bench_run.py                   write what `rt check` runs it on: crates/bench_run/stdin, stdout and data/chart.bin
+  tests/bench_run.py                   write what `rt check` runs it on: crates/bench_run/stdin, stdout and data/chart.bin; and examples/clamp
   tests/bench_run.py --check           say whether they are what this file says
   tests/bench_run.py --run [PROGRAM]   run the built program on every case, or another by its path from the root, such as build/bench_run
 
@@ -14,7 +14,7 @@ sys.dont_write_bytecode = True
 import run_cycles as model  # noqa: E402
 from programs import main  # noqa: E402
 from read_charts import (  # noqa: E402
-    CHART_A, EDITION, END, FULL as FULL_CHART, GO, L, N, ONE, P0, P1, TWO, action, block, case, edition, record, second, step, transition,
+    CHART_A, DS, EDITION, END, FULL as FULL_CHART, GO, L, N, ONE, P0, P1, R, S, TWO, action, block, case, edition, record, second, step, transition,
 )
 from sources import SOURCES, cycle, line, start, trace  # noqa: E402
 
@@ -144,6 +144,34 @@ CASES += [
     ("10, the edition behind the end", CHART_A + EDITION, TRACE_A, ["refused chart 10"]),
 ]
 
+# Document 02, request (xi): the chart that docs/ASSESSOR.md works through by hand. Steps idle, closing, braking and opening, each left by an input of its
+# own; actions 0 jog and 1 clamp, both on output 0, and 2 power. Closing clamps after 200 ms, braking jogs, opening resets the clamp, idle sets power.
+CLAMP = (step(1) + step(0) * 3 + action(0, 5) + action(0, 1) + action(1, 1) + b"".join(transition([k], [(k + 1) % 4], on=[k]) for k in range(4))
+         + block(1, 1, DS, 200) + block(2, 0, N) + block(3, 1, R) + block(0, 2, S) + END)
+CLAMP_TRACE = trace(1000, (1010, {0}), (1209, {}), (1210, {}), (1300, {1}), (1290, {2}), (1400, {2}), (1500, {3}))
+CASES += [
+    ("the clamp", CLAMP, CLAMP_TRACE, [
+        "0 0000000000000001 00000004 0000000000000000",
+        "1 0000000000000002 00000004 0000000000000001",
+        "2 0000000000000002 00000004 0000000000000000",
+        "1311",
+        "3 0000000000000002 00000006 0000000000000000",
+        "1311",
+        "4 0000000000000004 00000007 0000000000000002",
+        "5 refused 11",
+        "6 0000000000000008 00000004 0000000000000004",
+        "7 0000000000000001 00000004 0000000000000008",
+        "passed 0 failed 0 notrun 0"]),
+    # its step is left in the call that would have set it, and is not active after it; and in edition 2 it is the same
+    *((f"a clamp left at its duration{how}", chart, trace(1000, (1010, {0}), (1210, {1}), (1300, {})),
+       [line(0, {0}, {2}), line(1, {1}, {2}, {0}), line(2, {2}, {0, 2}, {1}), line(3, {2}, {0, 2}, why="1131"), "passed 0 failed 0 notrun 0"])
+      for how, chart in [("", CLAMP), (" in edition 2", second(CLAMP))]),
+    # step 0, which stays active, sets the action in every call, and step 2 resets it while it is active
+    ("S at the start, S and R in one call", step(1) * 2 + step(0) + action(0) + transition([1], [2], on=[0]) + transition([2], [1], on=[1])
+     + block(0, 0, S) + block(2, 0, R) + END, trace(0, (1, {0}), (2, {}), (3, {1})),
+     [line(0, {0, 1}, {0}), line(1, {0, 2}, {}, {0}), line(2, {0, 2}, {}, why="13"), line(3, {0, 1}, {0}, {1}), "passed 0 failed 0 notrun 0"]),
+]
+
 
 def answered(data, records):
     """The lines of calls by the model, a second one in the same text, and the tally's; records are a start's clock and then cycles' clocks and inputs."""
@@ -183,4 +211,4 @@ CASES += [
 ] + SOURCES
 
 if __name__ == "__main__":
-    main("bench_run", CASES, (CHART_A, FULL))
+    main("bench_run", CASES, (CHART_A, FULL), {"examples/clamp/chart.bin": CLAMP, "examples/clamp/trace.bin": CLAMP_TRACE})

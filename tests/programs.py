@@ -79,8 +79,8 @@ def run_odd(program, chart, given):
     return odd + 2
 
 
-def main(name, cases, long):
-    """What a script's command line asks for; `long` is the chart and the input of a run that prints much."""
+def main(name, cases, long, kept=None):
+    """What a script's command line asks for; `long` is the chart and the input of a run that prints much, `kept` what else it stores, by path."""
     first = cases[0][1:]
     if "--run" in sys.argv[1:]:
         program = (sys.argv[2:] or [name])[0]
@@ -93,5 +93,6 @@ def main(name, cases, long):
             f"crates/{name}/data/chart.bin": chart,
             f"crates/{name}/stdin": given,
             f"crates/{name}/stdout": text(lines),
+            **(kept or {}),
         }, f"tests/{name}.py")
         print(f"{name}: 1 stored run")

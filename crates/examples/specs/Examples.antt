@@ -9,9 +9,9 @@ use borrow.Author.Tests.{le-ltb}
 use lib.Dec.{lit<}
 use lib.IntN.{pos}
 use lib.ListN.{getD, replicate}
-use Rattle.sets.specs.Loops.{all, some, summed, firstCode, tableFrom, turns}
+use Rattle.sets.specs.Loops.{all, some, summed, firstCode, table, tableFrom, turns}
 use Rattle.sets.specs.Sets.{has, collect}
-use Rattle.fields.specs.Fields.{L, D, SD, SL, P1, P0, transitionCode}
+use Rattle.fields.specs.Fields.{N, R, S, L, D, SD, DS, SL, P1, P0, transitionCode}
 use Rattle.chart.specs.Chart.{emptyChart, noChart, withStep, withAction, withTransition, withBlock}
 use Rattle.chart.specs.Held.{stepsCode, actionsCode, transitionsCode, blocksCode, casesCode, someInitial, timedFor, timedTwice, heldCode, chartCode}
 use Rattle.chart.specs.Initial.{initialSet}
@@ -39,7 +39,9 @@ use Rattle.shift.specs.Shifting.{Done, shiftOf}
 use Rattle.tally.specs.Tallying.{tallyOf}
 use Rattle.tally.specs.Weighing.{weightIn, unbalanced, weighOf}
 use Rattle.adding.specs.Adding.{sums, unfit, addedAs, addOf, sumOf}
+use Rattle.claims.specs.Counters.{counterIn}
 use Rattle.claims.specs.Runs.{Call, cycle, after, listed, history, howMany, arrivals, departures, begun}
+use Rattle.claims.specs.Stored.{answerTo, setBy, resetBy}
 use Rattle.claims.specs.Weights.{weighed-apart}
 
 -- a start and a cycle with 32 outputs lent
@@ -313,6 +315,62 @@ indexes = record {
   no-transition = refl;
   no-step = refl;
   of-targets = refl;
+}
+
+-- document 02, request (xi): docs/ASSESSOR.md works this chart through by hand. Steps idle (initial), closing, braking, opening, each left by an input of its
+-- own; actions jog and clamp, both on output 0, and power. Closing clamps after 200 ms (DS), braking jogs (N), opening resets the clamp (R), and idle sets power (S)
+abbrev clamp : Chart
+clamp =
+    withBlock (withBlock (withBlock (withBlock
+    (withTransition (withTransition (withTransition (withTransition
+    (withAction (withAction (withAction (withStep (withStep (withStep (withStep (emptyChart 1) 1) 0) 0) 0) 0 (pos 5)) 0 (pos 1)) 1 (pos 1))
+    1 2 1 0 0) 2 4 2 0 0) 4 8 4 0 0) 8 1 8 0 0)
+    1 1 DS 200) 2 0 N 0) 3 1 R 0) 0 2 S 0
+
+abbrev at : ℕ → ℕ → Call
+at clock inputs = cycle (record { clock = clock; inputs = inputs; lent = 32 })
+
+-- the start at 1000 is call 0; call 5 goes back in time and is refused
+abbrev clampCalls : List Call
+clampCalls = at 1010 1 ∷ at 1209 0 ∷ at 1210 0 ∷ at 1300 2 ∷ at 1290 4 ∷ at 1400 4 ∷ at 1500 8 ∷ []
+
+abbrev clampCall : ℕ → Cycled
+clampCall n = answerTo clamp (startOf clamp 1000 32) clampCalls n
+
+-- each call by its number: whether it set action a, whether it reset it, whether the action is stored after it
+abbrev setEach : ℕ → List Bool
+setEach a = table (setBy clamp (startOf clamp 1000 32) clampCalls a) 8
+
+abbrev resetEach : ℕ → List Bool
+resetEach a = table (resetBy clamp (startOf clamp 1000 32) clampCalls a) 8
+
+abbrev storedEach : ℕ → List Bool
+storedEach a = table (λ n. has (clampCall n .run .stored) a) 8
+
+pub record Clamping : Type 0 where
+  pub numbers : table (λ n. clampCall n .code) 8 ≡ 0 ∷ 0 ∷ 0 ∷ 0 ∷ 0 ∷ 11 ∷ 0 ∷ 0 ∷ []
+  pub steps : table (λ n. clampCall n .run .active) 8 ≡ 1 ∷ 2 ∷ 2 ∷ 2 ∷ 4 ∷ 4 ∷ 8 ∷ 1 ∷ []
+  pub closing-for : table (λ n. counterIn (clampCall n .run) 1) 8 ≡ 0 ∷ 0 ∷ 199 ∷ 200 ∷ 0 ∷ 0 ∷ 0 ∷ 0 ∷ []
+  pub clamp-set : setEach 1 ≡ false ∷ false ∷ false ∷ true ∷ false ∷ false ∷ false ∷ false ∷ []
+  pub clamp-reset : resetEach 1 ≡ false ∷ false ∷ false ∷ false ∷ false ∷ false ∷ true ∷ false ∷ []
+  pub clamp-stored : storedEach 1 ≡ false ∷ false ∷ false ∷ true ∷ true ∷ true ∷ false ∷ false ∷ []
+  pub power-set : setEach 2 ≡ true ∷ false ∷ false ∷ false ∷ false ∷ false ∷ false ∷ true ∷ []
+  pub power-stored : storedEach 2 ≡ replicate 8 true
+  -- jog, earlier in the table, drives the clamp's output while it brakes
+  pub jogs : getD (outputsAfter clamp (clampCall 4) (replicate 32 (pos 9))) 0 (pos 9) ≡ pos 5
+
+pub clamping : Clamping
+unfolding all some summed firstCode tableFrom turns collect transitionCode stepsCode actionsCode transitionsCode blocksCode casesCode someInitial timedFor timedTwice heldCode reason chosen reasonsOf marksOf initialSet asked acted first outputsOf answerTo
+clamping = record {
+  numbers = refl;
+  steps = refl;
+  closing-for = refl;
+  clamp-set = refl;
+  clamp-reset = refl;
+  clamp-stored = refl;
+  power-set = refl;
+  power-stored = refl;
+  jogs = refl;
 }
 
 -- idle (initial), pressurising, venting, recording, recorded: docs/ASSESSOR.md weighs this chart by hand
