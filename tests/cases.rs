@@ -3,9 +3,10 @@
 //
 //   cases SEED CASES FOLDER SECOND -- WORDS OF THE DRIVER -- WORDS OF BENCH_RUN [-- WORDS OF ANOTHER BENCH_RUN ..]
 //
-// Behind the driver's words comes what it is to do: read_charts, write_back or held_calls; tests/read_charts.py, tests/write_back.py and
-// tests/held_calls.py have the forms of its input and output. Charts and traces have the form of document 01. No answer is worked out here:
-// what both say alike passes, and what was reached is counted from requests and answers. A case depends on the seed and its own number alone.
+// Behind the driver's words comes what it is to do: read_charts, write_back, held_calls or stored_runs; tests/read_charts.py, tests/write_back.py,
+// tests/held_calls.py and the head of tests/driver.c have the forms of its input and output. Charts and traces have the form of document 01. No
+// answer is worked out here: what both say alike passes, and what was reached is counted from requests and answers. A case depends on the seed and
+// its own number alone.
 
 use std::cell::Cell;
 use std::collections::BTreeMap;
@@ -149,6 +150,7 @@ const DS: u64 = 7;
 const SL: u64 = 8;
 const P1: u64 = 9;
 const P0: u64 = 10;
+const QUALIFIERS: [u64; 11] = [N, R, S, L, D, P, SD, DS, SL, P1, P0];
 const TIMED: [u64; 5] = [L, D, SD, DS, SL];
 const UNTIMED: [u64; 6] = [N, R, S, P, P1, P0];
 
@@ -227,11 +229,11 @@ fn transition(rng: &Rng, steps: usize, actions: usize, due: &[u64]) -> Record {
     [sources, (target | others) & !sources, on, off, wait]
 }
 
-// "An action has at most one timed block."
-fn blocks(rng: &Rng, many: usize, steps: usize, actions: usize, due: &[u64]) -> Vec<Record> {
+// "An action has at most one timed block." One more of these qualifiers is one of the untimed.
+fn blocks(rng: &Rng, many: usize, steps: usize, actions: usize, due: &[u64], qualifiers: &[u64]) -> Vec<Record> {
     let (mut found, mut with_timed) = (Vec::new(), 0);
     for _ in 0..if actions > 0 { many } else { 0 } {
-        let (step, action, mut q) = (rng.below(steps) as u64, rng.below(actions) as u64, rng.below(11) as u64);
+        let (step, action, mut q) = (rng.below(steps) as u64, rng.below(actions) as u64, rng.pick(qualifiers));
         if TIMED.contains(&q) && has(with_timed, action) {
             q = rng.pick(&UNTIMED);
         }
@@ -250,7 +252,7 @@ fn random_chart(rng: &Rng) -> Chart {
         (0..steps).map(|k| [u64::from(k == first || rng.chance(25)), 0, 0, 0, 0]).collect(),
         (0..actions).map(|_| [rng.below(outputs) as u64, rng.pick(&values), 0, 0, 0]).collect(),
         (0..if steps > 1 { transitions } else { 0 }).map(|_| transition(rng, steps, actions, &due)).collect(),
-        blocks(rng, many, steps, actions, &due),
+        blocks(rng, many, steps, actions, &due, &QUALIFIERS),
         (0..cases).map(|_| [rng.below(steps) as u64, signal(rng, actions), rng.any() % 2, 0, 0]).collect(),
         (0..rng.below(2)).map(|_| [2, 0, 0, 0, 0]).collect(),
     ]
@@ -1178,6 +1180,71 @@ fn adding_case(rng: &Rng, _: u64) -> Case {
     Case { request: bytes, count: Box::new(move |reached, line| count_added(reached, &adding, line)) }
 }
 
+// A call of a run, as the driver's stored_runs takes it.
+#[derive(Clone, Copy, PartialEq)]
+enum Entry {
+    Start,
+    Cycle,
+    Turn(bool),
+    Cycles,
+}
+
+// Few actions, which most blocks set or reset.
+fn storing_chart(rng: &Rng) -> Chart {
+    let mut chart = random_chart(rng);
+    let (steps, actions, due) = (chart[STEP].len(), chart[ACTION].len(), due_times(&chart));
+    if rng.chance(80) {
+        chart[BLOCK] = blocks(rng, rng.between(2, 12) as usize, steps, actions.min(4), &due, &[S, S, R, DS, DS, N]);
+    }
+    chart
+}
+
+// A start and then cycles, turns of the key and shifts; now and then of a file that is none.
+fn stored_case(rng: &Rng, _: u64) -> Case {
+    let chart = storing_chart(rng);
+    let (held, due) = (Held::of(&file_of(&chart)), due_times(&chart));
+    let file = if rng.chance(97) { file_of(&chart) } else { shortened(faulty_file(rng, chart.clone())) };
+    let mut last = rng.pick(&[0, 1000, rng.between(0, TURN - 1), TURN - rng.between(1, 70_000)]);
+    let (mut bytes, mut entries, mut calls) = (framed([&file].into_iter(), 2), vec![Entry::Start], vec![last]);
+    let many = rng.between(0, 30);
+    put(&mut bytes, last as u64, 4);
+    put(&mut bytes, many as u64, 2);
+    for _ in 0..many {
+        let (entry, clocks) = match rng.below(20) {
+            0..=14 => (Entry::Cycle, vec![reading(clock_after(rng, last, &calls, &due))]),
+            15..=16 => (Entry::Turn(true), vec![]),
+            17..=18 => (Entry::Turn(false), vec![]),
+            _ => (Entry::Cycles, shift_clocks(rng, reading(last), rng.below(12), &due)),
+        };
+        put_entry(&mut bytes, entry, &clocks, || inputs_for(rng, &chart, None));
+        for clock in clocks.into_iter().map_while(|clock| {
+            // a shift ends at the first that is refused
+            let gap = reading(clock as i64 - last) as i64;
+            last += if gap <= MINUTE { gap } else { 0 };
+            (gap <= MINUTE).then_some(last)
+        }) {
+            calls.push(clock);
+        }
+        entries.push(entry);
+    }
+    Case { request: bytes, count: Box::new(move |reached, line| count_stored_run(reached, &held, &entries, line)) }
+}
+
+fn put_entry(bytes: &mut Vec<u8>, entry: Entry, clocks: &[u64], inputs: impl Fn() -> u64) {
+    let kind = match entry {
+        Entry::Turn(true) => 1,
+        Entry::Turn(false) => 2,
+        Entry::Cycles => 3,
+        _ => 0,
+    };
+    put(bytes, kind, 1);
+    if entry == Entry::Cycles {
+        put(bytes, clocks.len() as u64, 2);
+    }
+    clocks.iter().for_each(|clock| put(bytes, *clock, 4));
+    clocks.iter().for_each(|_| put(bytes, inputs(), 4));
+}
+
 // A chart file, or none, and a trace.
 struct Printing {
     file: Option<Vec<u8>>,
@@ -1262,8 +1329,18 @@ fn needed() -> Vec<String> {
     names.extend(needed_of_editions());
     names.extend(needed_of_indexes());
     names.extend(needed_of_adding());
+    names.extend(STORED.iter().flat_map(|name| [name.to_string(), format!("{name}{IN_2}")]));
     names
 }
+
+// Document 02, request (xi), in both editions.
+#[rustfmt::skip]
+const STORED: [&str; 22] = [
+    "set at the start", "not set beside R at the start", "newly set by S", "newly set by DS at its duration", "newly set by DS above it",
+    "not set by DS one ms before", "not set by DS one ms before under hold", "not set by S beside R", "not set by DS beside R", "reset where stored",
+    "reset where not stored", "stored again after a reset", "stored beyond its step", "stored over a refused call", "stored over a turn of the key",
+    "stored over a cycle under hold", "shift sets", "shift resets", "shift keeps", "stopped shift sets", "stopped shift resets", "stopped shift keeps",
+];
 
 // Under hold none is taken, so no source is used and no target claimed; and no edge makes P, P1 or P0 active.
 fn needed_of_hold() -> Vec<String> {
@@ -2117,6 +2194,97 @@ fn count_held_shift(reached: &mut Reached, length: u64, mark: u64, fits: bool, l
     }
 }
 
+// What a caller sees after a call of a run.
+struct Seen {
+    code: u64,
+    accepted: u64,
+    active: u64,
+    stored: u64,
+    counters: [u64; 64],
+}
+
+// The calls of a line, in their order. The counters that are not 0 stand as k:n behind a c.
+fn seen(entries: &[Entry], line: &str) -> Vec<Seen> {
+    let mut words = line.split(' ').peekable();
+    let mut calls = Vec::new();
+    for entry in entries {
+        let mut number = || words.next().and_then(|word| word.parse().ok()).expect("a number");
+        let (code, accepted) = (number(), if *entry == Entry::Cycles { number() } else { 0 });
+        let (active, stored, mut counters) = (number(), number(), [0; 64]);
+        assert_eq!(words.next(), Some("c"));
+        while let Some((k, n)) = words.peek().and_then(|word| word.split_once(':')) {
+            counters[k.parse::<usize>().expect("a step")] = n.parse().expect("a counter");
+            words.next();
+        }
+        calls.push(Seen { code, accepted, active, stored, counters });
+    }
+    calls
+}
+
+// Of an accepted start or cycle: what the blocks of active steps did to their actions, which were stored before or not.
+fn deeds(held: &Held, first: bool, under: bool, before: u64, call: &Seen) -> Vec<String> {
+    let on: Vec<usize> = (0..held.count(Blocks)).filter(|k| has(call.active, held[BlockStep][*k])).collect();
+    let reset = on.iter().filter(|k| held[Qualifier][**k] == R).fold(0, |set, k| set | 1 << held[BlockAction][*k]);
+    let (mut set, mut names) = (0, Vec::new());
+    let mut note = |so: bool, name: String| names.extend(so.then_some(name));
+    for k in on {
+        let (action, q, duration) = (held[BlockAction][k], held[Qualifier][k], held[Duration][k]);
+        let counter = call.counters[held[BlockStep][k] as usize];
+        let (was, is, beside) = (has(before, action), has(call.stored, action), has(reset, action));
+        let sets = q == S || q == DS && counter >= duration;
+        set |= u64::from(sets) << action;
+        note(q == R, format!("reset where {}", if was { "stored" } else { "not stored" }));
+        note(sets && beside && !is, format!("not set by {} beside R", NAMES[q as usize]));
+        note(sets && first, format!("{} at the start", if is { "set" } else { "not set beside R" }));
+        note(q == S && is && !was, "newly set by S".to_string());
+        note(q == DS && is && !was && sets, format!("newly set by DS {}", if counter > duration { "above it" } else { "at its duration" }));
+        note(q == DS && !is && counter + 1 == duration, format!("not set by DS one ms before{}", if under { " under hold" } else { "" }));
+    }
+    note(call.stored & !set != 0, "stored beyond its step".to_string());
+    names
+}
+
+// Of any call but an accepted start or cycle: what was stored over it, and what a shift changed.
+fn stored_over(entry: Entry, before: u64, call: &Seen) -> Vec<String> {
+    let kept = call.stored & before != 0;
+    let named: &[(bool, &str)] = match entry {
+        Entry::Cycles if call.accepted > 0 => {
+            let stopped = if call.code == 0 { "shift" } else { "stopped shift" };
+            let changed = [(call.stored & !before, "sets"), (before & !call.stored, "resets"), (before & call.stored, "keeps")];
+            return changed.iter().filter(|(set, _)| *set != 0).map(|(_, what)| format!("{stopped} {what}")).collect();
+        }
+        Entry::Turn(_) if call.code == 0 => &[(kept, "stored over a turn of the key")],
+        _ => &[(kept && call.code != 0, "stored over a refused call")],
+    };
+    named.iter().filter(|(so, _)| *so).map(|(_, name)| name.to_string()).collect()
+}
+
+// A run of calls; one of a file that is none says nothing.
+fn count_stored_run(reached: &mut Reached, held: &Held, entries: &[Entry], line: &str) {
+    let (mut before, mut lost, mut under) = (0, 0, false);
+    let calls = seen(entries, line);
+    reached.note("run of calls refused", calls[0].code != 0);
+    for (entry, call) in entries.iter().zip(&calls).take_while(|_| calls[0].code == 0) {
+        let names = match entry {
+            Entry::Start | Entry::Cycle if call.code == 0 => {
+                let mut names = deeds(held, *entry == Entry::Start, under, before, call);
+                names.extend((under && before & call.stored != 0).then(|| "stored over a cycle under hold".to_string()));
+                names.extend((call.stored & !before & lost != 0).then(|| "stored again after a reset".to_string()));
+                names
+            }
+            _ => stored_over(*entry, before, call),
+        };
+        for name in names {
+            reached.note(&format!("{name}{IN_2}"), held.is_second());
+            reached.add(&name, 1);
+        }
+        if let (Entry::Turn(mark), 0) = (entry, call.code) {
+            under = *mark;
+        }
+        (lost, before) = (lost | before & !call.stored, call.stored);
+    }
+}
+
 // Of a cycle that took nothing. An earlier transition that uses or claims a step is taken, so 2 and 6 stand in none; in edition 2 neither does 5.
 fn count_second(reached: &mut Reached, held: &Held, line: &str) {
     reached.note("empty second lines", line.is_empty());
@@ -2200,13 +2368,14 @@ struct Part {
     make: fn(&Rng, u64) -> Case,
 }
 
-const PARTS: [Part; 6] = [
+const PARTS: [Part; 7] = [
     Part { what: "files read", times: 1, driver: "read_charts", second: "read", lengths: [2, 4], make: read_case },
     Part { what: "files written back", times: 1, driver: "write_back", second: "back", lengths: [2, 4], make: back_case },
     Part { what: "held calls", times: 5, driver: "held_calls", second: "held", lengths: [0, 0], make: held_case },
     Part { what: "held charts written", times: 1, driver: "held_calls", second: "held", lengths: [0, 0], make: writing_case },
     Part { what: "shifts", times: 1, driver: "held_calls", second: "held", lengths: [0, 0], make: shift_case },
     Part { what: "weighings added", times: 1, driver: "held_calls", second: "held", lengths: [0, 0], make: adding_case },
+    Part { what: "runs of calls", times: 1, driver: "stored_runs", second: "stored", lengths: [0, 0], make: stored_case },
 ];
 
 // So many cases are made, answered and compared at a time: enough that starting two programs costs little, few enough for the memory, since the

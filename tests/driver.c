@@ -6,11 +6,13 @@
      driver run_cycles     a file, a start, then cycles and turns of the key: for each call its whole answer; each cycle by the chart's index too,
                            and in front of its line what differs then
      driver lent_cycles    the same by tw_advance: number, taken, active, activity, clock, hold mark, reasons
+     driver stored_runs    a file, a start, then cycles, turns of the key and shifts, in one line: for each its number, of a shift how many cycles were
+                           accepted, and then the active steps, the stored actions and the step counters; cycles by the index too, as above
      driver held_calls     any chart, any run and a call: its whole answer and all that was lent; tests/held_calls.py has the form
 
    A file stands behind its length in two bytes, but for list_records, whose input is the file. A start is its clock in four bytes and the number of
    calls that follow in two; each of them has a byte in front, 0 for a cycle, its clock and its inputs in four each, 1 for a hold and 2 for a
-   release, which have nothing more. There are as many cases as the input has; it may end within one, which then is left out. Numbers are
+   release, which have nothing more, and in stored_runs 3 for a shift, how many cycles in two, their clocks and then their inputs in four each. There are as many cases as the input has; it may end within one, which then is left out. Numbers are
    little-endian, as on the machines that this runs on. */
 #include <stdbool.h>
 #include <stddef.h>
@@ -28,6 +30,8 @@ static struct tw_run run;
 static struct tw_index chart_index;
 static int32_t outputs[LENT];
 static uint8_t reasons[TW_TRANSITIONS];
+static uint32_t clock_list[LIST], input_list[LIST];
+static uint64_t activity_list[LIST];
 
 /* Input */
 
@@ -314,33 +318,41 @@ static void other_call(enum tw_code code, line_of_call *line)
 	line(code, 0);
 }
 
-static bool one_call(cycle_call *cycle, line_of_call *line)
+enum { CYCLE_CALL, HOLD_CALL, RELEASE_CALL, SHIFT_CALL };
+
+static bool one_call(uint8_t kind, cycle_call *cycle, line_of_call *line)
 {
-	enum { CYCLE, HOLD, RELEASE };
-	uint8_t kind;
-	if (!take(&kind, sizeof kind))
-		return false;
 	switch (kind) {
-	case CYCLE: return one_cycle(cycle, line);
-	case HOLD: other_call(tw_hold(&chart, &run), line); return true;
-	case RELEASE: other_call(tw_release(&chart, &run), line); return true;
+	case CYCLE_CALL: return one_cycle(cycle, line);
+	case HOLD_CALL: other_call(tw_hold(&chart, &run), line); return true;
+	case RELEASE_CALL: other_call(tw_release(&chart, &run), line); return true;
 	}
 	return false;
 }
 
-static bool one_run(cycle_call *cycle, line_of_call *line)
+/* The start, and how many calls follow. */
+static bool begin_run(uint16_t *calls, line_of_call *line)
 {
-	uint16_t size, calls;
+	uint16_t size;
 	uint32_t clock;
 	size_t place;
-	if (!take_file(&size) || !take(&clock, sizeof clock) || !take(&calls, sizeof calls))
+	if (!take_file(&size) || !take(&clock, sizeof clock) || !take(calls, sizeof *calls))
 		return false;
 	tw_read(file, size, &chart, &place);
 	tw_index(&chart, &chart_index);
 	memset(outputs, 0, sizeof outputs);
 	other_call(tw_start(&chart, &run, clock, outputs, TW_OUTPUTS), line);
+	return true;
+}
+
+static bool one_run(cycle_call *cycle, line_of_call *line)
+{
+	uint16_t calls;
+	uint8_t kind;
+	if (!begin_run(&calls, line))
+		return false;
 	for (; calls > 0; calls--)
-		if (!one_call(cycle, line))
+		if (!take(&kind, sizeof kind) || !one_call(kind, cycle, line))
 			return false;
 	return true;
 }
@@ -353,6 +365,48 @@ static bool run_cycles(void)
 static bool lent_cycles(void)
 {
 	return one_run(tw_advance, lent_cycles_line);
+}
+
+/* Stored from set to reset (document 02, request xi): what a caller sees of it. */
+
+static void stored_words(void)
+{
+	number(run.active);
+	number(run.stored);
+	word("c");
+	some_numbers(run.counters, TW_STEPS);
+}
+
+static void stored_part(enum tw_code code, uint64_t taken)
+{
+	(void)taken;
+	number(code);
+	stored_words();
+}
+
+static bool stored_shift(void)
+{
+	uint16_t many;
+	size_t accepted;
+	if (!take(&many, sizeof many) || many > LIST || !take(clock_list, many * sizeof *clock_list) || !take(input_list, many * sizeof *input_list))
+		return false;
+	number(tw_shift(&chart, &run, clock_list, many, input_list, many, activity_list, many, outputs, TW_OUTPUTS, &accepted));
+	number(accepted);
+	stored_words();
+	return true;
+}
+
+static bool stored_runs(void)
+{
+	uint16_t calls;
+	uint8_t kind;
+	if (!begin_run(&calls, stored_part))
+		return false;
+	for (; calls > 0; calls--)
+		if (!take(&kind, sizeof kind) || !(kind == SHIFT_CALL ? stored_shift() : one_call(kind, cycle_both_ways, stored_part)))
+			return false;
+	end_line();
+	return true;
 }
 
 /* Held charts and runs. All that is lent to a call has values of its own before, so that what it leaves untouched is seen. */
@@ -443,19 +497,17 @@ static void held_index(void)
 
 static bool held_shift(bool by_index, size_t nclocks, size_t ninputs, size_t nactivities, size_t lent)
 {
-	static uint32_t clocks[LIST], inputs[LIST];
-	static uint64_t activities[LIST];
 	size_t accepted;
-	if (!take(clocks, nclocks * sizeof *clocks) || !take(inputs, ninputs * sizeof *inputs))
+	if (!take(clock_list, nclocks * sizeof *clock_list) || !take(input_list, ninputs * sizeof *input_list))
 		return false;
 	for (size_t k = 0; k < nactivities; k++)
-		activities[k] = (UINT64_C(1) << 32) + k;
+		activity_list[k] = (UINT64_C(1) << 32) + k;
 	enum tw_code code = by_index
-		? tw_shift_by(&chart, &chart_index, &run, clocks, nclocks, inputs, ninputs, activities, nactivities, outputs, lent, &accepted)
-		: tw_shift(&chart, &run, clocks, nclocks, inputs, ninputs, activities, nactivities, outputs, lent, &accepted);
+		? tw_shift_by(&chart, &chart_index, &run, clock_list, nclocks, input_list, ninputs, activity_list, nactivities, outputs, lent, &accepted)
+		: tw_shift(&chart, &run, clock_list, nclocks, input_list, ninputs, activity_list, nactivities, outputs, lent, &accepted);
 	held_run(code, accepted, lent);
 	for (size_t k = 0; k < nactivities; k++)
-		number(activities[k]);
+		number(activity_list[k]);
 	end_line();
 	return true;
 }
@@ -506,7 +558,7 @@ int main(int argc, char **argv)
 		bool (*one_case)(void);
 	} modes[] = {
 		{ "read_charts", read_charts }, { "write_back", write_back }, { "list_records", list_records }, { "run_cycles", run_cycles },
-		{ "lent_cycles", lent_cycles }, { "held_calls", held_calls },
+		{ "lent_cycles", lent_cycles }, { "stored_runs", stored_runs }, { "held_calls", held_calls },
 	};
 	static char in[1 << 20];
 	setvbuf(stdin, in, _IOFBF, sizeof in);

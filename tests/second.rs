@@ -2,13 +2,15 @@
 // writer of charts from request (i) of document 02, the rule for P from request (ii), the whole
 // shift in one call from request (iii), the reasons why a transition waits from request (vi), the
 // hold key from request (vii), the second edition of the stepping rule from request (viii), the
-// index of leaving transitions from request (ix) and the adding of weighings from request (x). No
-// other request of document 02 is followed. Words in quotation marks above a function are sentences
-// of document 01, or of request (i), (ii), (iii), (vi), (vii), (viii), (ix) or (x) where that is
-// said. A function that only serves the command line says so instead, since none of them speaks of
-// that. A cycle or a shift with an index consults all transitions, as one without: that the index
-// changes no answer is what request (ix) claims. The cycle that consults fewer is in the selftest
-// alone, which compares the two.
+// index of leaving transitions from request (ix), the adding of weighings from request (x) and the
+// sentence on stored actions from request (xi). No other request of document 02 is followed. Words
+// in quotation marks above a function are sentences of document 01, or of request (i), (ii), (iii),
+// (vi), (vii), (viii), (ix), (x) or (xi) where that is said. A function that only serves the
+// command line says so instead, since none of them speaks of that. A cycle or a shift with an index
+// consults all transitions, as one without: that the index changes no answer is what request (ix)
+// claims. The cycle that consults fewer is in the selftest alone, which compares the two. Nor does
+// request (xi) change an answer: its sentence is worked out from a history of the calls, beside the
+// stored actions that the run keeps, and the selftest compares the two.
 
 use std::collections::BTreeSet;
 use std::io::{Read, Write};
@@ -250,12 +252,12 @@ fn test_action(action: &Action) -> Result<(), Code> {
 // "5 | a field outside its stated range"; "6 | a transition has no source, no target, or a step
 // that is both"; "7 | a signal in both on and off"
 fn test_transition(transition: &Transition, steps: usize, actions: usize) -> Result<(), Code> {
-    let steps = numbers(steps);
-    let signals = existing_signals(actions);
-    if !transition.sources.is_subset(&steps) || !transition.targets.is_subset(&steps) {
+    let step_exists = |k: &usize| *k < steps;
+    let signal_exists = |k: &usize| *k < 32 + actions;
+    if !transition.sources.iter().all(step_exists) || !transition.targets.iter().all(step_exists) {
         return Err(5);
     }
-    if !transition.on.is_subset(&signals) || !transition.off.is_subset(&signals) {
+    if !transition.on.iter().all(signal_exists) || !transition.off.iter().all(signal_exists) {
         return Err(5);
     }
     if transition.wait > LONGEST {
@@ -1583,6 +1585,150 @@ fn sums_of(first: &[u16], second: &[u16]) -> Result<Vec<u16>, u64> {
 }
 
 // ---------------------------------------------------------------------------------------------
+// Stored from set to reset (request (xi) of document 02)
+// ---------------------------------------------------------------------------------------------
+
+// Request (xi): "some call set it and no call ... reset it" (what one accepted call did: the
+// actions that it set and those that it reset; "64-bit sets, bit k is number k")
+#[derive(Clone, Copy, PartialEq)]
+struct Done {
+    set: u64,
+    reset: u64,
+}
+
+// "64-bit sets, bit k is number k" (whether number k is in one)
+fn has(word: u64, k: usize) -> bool {
+    k < 64 && (word >> k) & 1 == 1
+}
+
+// Request (xi): "Set means an active S block, or an active DS block whose counter had reached its
+// duration" (whether a block sets its action)
+fn block_sets(block: &Block, active: &Set, counters: &[u32]) -> bool {
+    let sets = match qualifier_of(block.qualifier) {
+        Some(Qualifier::S) => true,
+        Some(Qualifier::DS) => at(counters, block.step) >= block.duration,
+        _ => false,
+    };
+    sets && active.contains(&block.step)
+}
+
+// ""Reset": some active step has an R block for it." (whether a block resets its action)
+fn block_resets(block: &Block, active: &Set) -> bool {
+    qualifier_of(block.qualifier) == Some(Qualifier::R) && active.contains(&block.step)
+}
+
+// Request (xi): "Set means ..., the start counted as a call." Document 01: "Actions, from the steps
+// now active." (what a call did that left these steps active with these counters; a call may both
+// set and reset an action)
+fn done_by(chart: &Chart, active: &Set, counters: &[u32]) -> Done {
+    let actions_of = |does: &dyn Fn(&Block) -> bool| {
+        let blocks = chart.blocks.iter().filter(|block| does(block));
+        word_of(&blocks.map(|block| block.action).collect())
+    };
+    Done {
+        set: actions_of(&|block| block_sets(block, active, counters)),
+        reset: actions_of(&|block| block_resets(block, active)),
+    }
+}
+
+// Request (xi): "an action is stored exactly if some call set it and no call from that one on,
+// itself included, reset it" (The latest call stands last in the history. Taken from the latest
+// backwards, and no further than to the first that reset the action, they are just those calls for
+// which "no call from that one on, itself included, reset it" is true; some of them must have set
+// it.)
+fn is_stored(history: &[Done], action: usize) -> bool {
+    let mut none_reset_from_it = history.iter().rev().take_while(|call| !has(call.reset, action));
+    none_reset_from_it.any(|call| has(call.set, action))
+}
+
+// Request (xi): "an action is stored exactly if ..." (all actions of the chart that are)
+fn stored_by_sentence(sequence: &Sequence) -> Set {
+    let actions = numbers(sequence.held.tables.actions.len());
+    actions.into_iter().filter(|action| is_stored(&sequence.history, *action)).collect()
+}
+
+// Request (xi): "any sequence of accepted calls from a start, each given the run that the one
+// before returned" (the run returned last, the outputs lent to every call, and what each accepted
+// call did, the start first)
+struct Sequence {
+    held: Held,
+    run: Run,
+    outputs: Vec<i32>,
+    history: Vec<Done>,
+}
+
+// Request (xi): "any sequence of accepted calls ... Hold and both editions are included." (a call
+// behind the start: a cycle with clock and inputs, setting the hold mark, clearing it, or a shift
+// with its clocks and its inputs)
+#[derive(Clone, PartialEq)]
+enum Entry {
+    Cycle(u32, u32),
+    Hold,
+    Release,
+    Shift(Vec<u32>, Vec<u32>),
+}
+
+// Request (xi): "from a start" (with its number; "A refused start returns an all-zero run", and the
+// history is then empty)
+fn begin_sequence(chart: &Chart, clock: u32) -> (Code, Sequence) {
+    let held = hold(chart);
+    let mut outputs = vec![0; 32];
+    let answer = start(&held, clock, &mut outputs);
+    let mut sequence = Sequence { held, run: zero_run(), outputs, history: Vec::new() };
+    add_call(&mut sequence, answer.code, answer.run);
+    (answer.code, sequence)
+}
+
+// Request (xi): "any sequence of accepted calls ..., each given the run that the one before
+// returned" (a refused call adds nothing to the history)
+fn add_call(sequence: &mut Sequence, code: Code, run: Run) {
+    if code == 0 {
+        let done = done_by(&sequence.held.tables, &run.active, &run.step_counters);
+        sequence.history.push(done);
+    }
+    sequence.run = run;
+}
+
+// Request (xi): "each given the run that the one before returned" (one call more; its number and,
+// for a shift alone, how many of its cycles were accepted)
+fn make_call(sequence: &mut Sequence, entry: &Entry) -> (Code, Option<u64>) {
+    let Sequence { held, run, outputs, .. } = sequence;
+    let (code, run) = match entry {
+        Entry::Cycle(clock, inputs) => {
+            let answer = cycle(held, run, *clock, *inputs, outputs);
+            (answer.code, answer.run)
+        }
+        Entry::Hold => {
+            let answer = set_hold(held, run);
+            (answer.code, answer.run)
+        }
+        Entry::Release => {
+            let answer = clear_hold(held, run);
+            (answer.code, answer.run)
+        }
+        Entry::Shift(clocks, inputs) => return make_shift(sequence, clocks, inputs),
+    };
+    add_call(sequence, code, run);
+    (code, None)
+}
+
+// Request (iii): "The result equals the calls made singly. It stops at the first refused cycle and
+// returns the number accepted and the run there" (so each accepted cycle of a shift is a call of
+// its own; they are made singly, for the history alone, from the run that the shift was given)
+fn make_shift(sequence: &mut Sequence, clocks: &[u32], inputs: &[u32]) -> (Code, Option<u64>) {
+    let mut words = vec![0; clocks.len()];
+    let Sequence { held, run, outputs, .. } = sequence;
+    let whole = shift(held, run, clocks, inputs, &mut words, outputs);
+    let mut outputs = vec![0; 32];
+    for (clock, inputs) in clocks.iter().zip(inputs).take(whole.accepted as usize) {
+        let single = cycle(&sequence.held, &sequence.run, *clock, *inputs, &mut outputs);
+        add_call(sequence, single.code, single.run);
+    }
+    sequence.run = whole.run;
+    (whole.code, Some(whole.accepted))
+}
+
+// ---------------------------------------------------------------------------------------------
 // The printed run
 // ---------------------------------------------------------------------------------------------
 
@@ -2027,6 +2173,61 @@ fn adding_line(held: &Held, first: &[u16], second: &[u16], inputs: u32) -> Vec<u
     line_of(values.iter())
 }
 
+// For the command line: one case of `stored`, and its line: the start and then the entries, one
+// after the other. The chart file's length has two bytes, the start's clock four and the number of
+// entries two.
+fn stored_case(input: &mut Fields) -> Option<Vec<u8>> {
+    let length = input.take(2)?;
+    let reading = read_chart(input.slice(length as usize)?);
+    let clock = input.take(4)? as u32;
+    let count = input.take(2)?;
+    let entries: Option<Vec<Entry>> = (0..count).map(|_| entry_image(input)).collect();
+    let entries = entries?;
+    let (code, mut sequence) = begin_sequence(&reading.chart, clock);
+    let mut values = values_of_call(&sequence, code, None);
+    for entry in &entries {
+        let (code, accepted) = make_call(&mut sequence, entry);
+        values.extend(values_of_call(&sequence, code, accepted));
+    }
+    Some(line_of(values.iter()))
+}
+
+// For the command line: an entry of `stored`: 0 a cycle, 1 hold, 2 release, 3 a shift with the
+// number of its cycles in two bytes, all its clocks and then all its inputs. (Nothing for another
+// kind.)
+fn entry_image(input: &mut Fields) -> Option<Entry> {
+    match input.take(1)? {
+        0 => {
+            let clock = input.take(4)? as u32;
+            Some(Entry::Cycle(clock, input.take(4)? as u32))
+        }
+        1 => Some(Entry::Hold),
+        2 => Some(Entry::Release),
+        3 => {
+            let count = input.take(2)? as usize;
+            let clocks = input.column(count, 4)?.iter().map(|clock| *clock as u32).collect();
+            let inputs = input.column(count, 4)?.iter().map(|word| *word as u32).collect();
+            Some(Entry::Shift(clocks, inputs))
+        }
+        _ => None,
+    }
+}
+
+// For the command line: what the line of `stored` says of a call: its number, for a shift how many
+// of its cycles were accepted, the active steps, the stored actions by the sentence of request (xi)
+// (not those that the run keeps), the word c, and each step with a counter other than 0.
+fn values_of_call(sequence: &Sequence, code: Code, accepted: Option<u64>) -> Vec<String> {
+    let mut values = vec![code.to_string()];
+    values.extend(accepted.map(|count| count.to_string()));
+    values.push(word_of(&sequence.run.active).to_string());
+    values.push(word_of(&stored_by_sentence(sequence)).to_string());
+    values.push("c".to_string());
+    let counters = sequence.run.step_counters.iter().enumerate();
+    let running = counters.filter(|(_, counter)| **counter != 0);
+    values.extend(running.map(|(step, counter)| format!("{}:{}", step, counter)));
+    values
+}
+
 // For the command line: all cases of standard input, until its end or a cut case.
 fn all_cases(one: fn(&mut Fields) -> Option<Vec<u8>>) {
     let mut bytes = Vec::new();
@@ -2054,9 +2255,10 @@ fn main() {
         Some("read") => all_cases(read_case),
         Some("held") => all_cases(held_case),
         Some("back") => all_cases(back_case),
+        Some("stored") => all_cases(stored_case),
         Some("selftest") => selftest(),
         _ => {
-            say(b"use: second print | read | held | back | selftest\n");
+            say(b"use: second print | read | held | back | stored | selftest\n");
             std::process::exit(2);
         }
     }
@@ -2246,6 +2448,13 @@ impl Bench {
         self.check(name, added(held, second, first) == *left);
     }
 
+    // A start at 0 and then these calls, all accepted: these actions are stored after the start and
+    // after each call, by the sentence of request (xi) and by the run's own word.
+    fn stores(&mut self, name: &str, held: &Held, entries: &[Entry], words: &[u64]) {
+        let wanted: Vec<(Code, u64)> = words.iter().map(|word| (0, *word)).collect();
+        self.check(name, stored_after(held, entries) == wanted);
+    }
+
     // A bench-run with chart A and what it prints.
     fn prints(&mut self, name: &str, trace: &[Vec<u8>], printed: &str) {
         let output = bench_run(Some(&chart_a()), &trace.concat());
@@ -2372,6 +2581,24 @@ fn selftest() {
     check_adding_laws(&mut bench);
     check_adding_grouping(&mut bench);
     check_adding_lines(&mut bench);
+    check_stored_start(&mut bench);
+    check_stored_ring(&mut bench);
+    check_stored_itself(&mut bench);
+    check_stored_ds(&mut bench);
+    check_stored_ds_again(&mut bench);
+    check_stored_hold(&mut bench);
+    check_stored_refused(&mut bench);
+    check_stored_shift(&mut bench);
+    check_stored_shift_among(&mut bench);
+    check_stored_editions(&mut bench);
+    check_stored_apart(&mut bench);
+    check_stored_histories(&mut bench);
+    check_stored_by_lot(&mut bench);
+    check_stored_teeth(&mut bench);
+    check_stored_lines(&mut bench);
+    check_stored_wide_lines(&mut bench);
+    check_stored_told(&mut bench);
+    check_stored_cases(&mut bench);
     check_printed(&mut bench);
     check_printed_second(&mut bench);
     check_printed_no_second(&mut bench);
@@ -7924,6 +8151,844 @@ fn check_adding_lines(b: &mut Bench) {
     for less in 1..9 {
         let cut = call.get(..call.len() - less).unwrap_or(&[]).to_vec();
         b.check("line of 11, cut", lines_with(&image, &[call.clone(), cut]).0 == "0 0 4 6\n");
+    }
+}
+
+// ---------------------------------------------------------------------------------------------
+// The selftest: stored from set to reset
+// ---------------------------------------------------------------------------------------------
+
+// A shift of cycles, each with clock and inputs, as an entry.
+fn shift_entry(cycles: &[(u32, u32)]) -> Entry {
+    let (clocks, inputs) = lists_of(cycles);
+    Entry::Shift(clocks, inputs)
+}
+
+// A start at 0 and then these calls; the sequence there.
+fn sequence_of(held: &Held, entries: &[Entry]) -> Sequence {
+    let mut sequence = begin_sequence(&held.tables, 0).1;
+    for entry in entries {
+        make_call(&mut sequence, entry);
+    }
+    sequence
+}
+
+// A start at 0 and then these calls: after each its number and the actions that are stored by the
+// sentence; the number is 99 if they are not those that the run keeps.
+fn stored_after(held: &Held, entries: &[Entry]) -> Vec<(Code, u64)> {
+    let seen = |code: Code, sequence: &Sequence| {
+        let stored = stored_by_sentence(sequence);
+        (if stored == sequence.run.stored { code } else { 99 }, word_of(&stored))
+    };
+    let (code, mut sequence) = begin_sequence(&held.tables, 0);
+    let mut after = vec![seen(code, &sequence)];
+    for entry in entries {
+        let code = make_call(&mut sequence, entry).0;
+        after.push(seen(code, &sequence));
+    }
+    after
+}
+
+// What the calls of a history did, the actions set beside those reset, the start first.
+fn dones(held: &Held, entries: &[Entry]) -> Vec<(u64, u64)> {
+    sequence_of(held, entries).history.iter().map(|done| (done.set, done.reset)).collect()
+}
+
+// Steps 0 (initial) to 3 in a ring, each left to the next on the input of its own number; step 1
+// has S and step 3 has R for action 0.
+fn held_ring() -> Held {
+    let steps = [step(1), step(0), step(0), step(0)].concat();
+    held_of(&[steps, action(0, 1), ring_moves(), block(1, 0, 2, 0), block(3, 0, 1, 0)])
+}
+
+// The transitions of a ring of four steps: 0 to 1 on input 0, and so on to 3 to 0 on input 3.
+fn ring_moves() -> Vec<u8> {
+    let moves = [transition(1, 2, 1, 0, 0), transition(2, 4, 2, 0, 0)];
+    [moves.concat(), transition(4, 8, 4, 0, 0), transition(8, 1, 8, 0, 0)].concat()
+}
+
+// One initial step with DS of this duration for action 0.
+fn held_ds(duration: u32) -> Held {
+    held_of(&[step(1), action(0, 1), block(0, 0, 7, duration)])
+}
+
+// Step 0 (initial) with DS 100 for action 0 goes to step 1 on input 0 and comes back on input 1;
+// these blocks besides.
+fn held_ds_again(blocks: &[Vec<u8>]) -> Held {
+    let moves = [transition(1, 2, 1, 0, 0), transition(2, 1, 2, 0, 0)].concat();
+    let records = [step(1), step(0), action(0, 1), moves, block(0, 0, 7, 100)].concat();
+    held_of(&[records, blocks.concat()])
+}
+
+// Steps 0 and 1, both initial, go to each other's place on input 0; step 0 has DS 100 for action 0.
+fn held_places() -> Held {
+    let moves = [transition(1, 2, 1, 0, 0), transition(2, 1, 1, 0, 0)].concat();
+    held_of(&[step(1).repeat(2), action(0, 1), moves, block(0, 0, 7, 100), edition(2)])
+}
+
+// Request (xi): "Set means an active S block, ... the start counted as a call."
+fn check_stored_start(b: &mut Bench) {
+    let one = |blocks: &[Vec<u8>]| held_of(&[step(1), action(0, 1), blocks.concat()]);
+    let two = |blocks: &[Vec<u8>]| {
+        held_of(&[step(1), step(0), step(1), action(0, 1), blocks.concat()])
+    };
+    let idle = [Entry::Cycle(5, 0), Entry::Cycle(6, 0)];
+    let (set, reset) = (block(0, 0, 2, 0), block(0, 0, 1, 0));
+    b.stores("S of an initial step", &one(&[set.clone()]), &idle, &[1, 1, 1]);
+    b.stores("no block", &one(&[]), &idle, &[0, 0, 0]);
+    b.stores("R of an initial step", &one(&[reset.clone()]), &idle, &[0, 0, 0]);
+    b.stores("S and R of one step", &one(&[set.clone(), reset.clone()]), &idle, &[0, 0, 0]);
+    b.stores("R and S of one step", &one(&[reset, set.clone()]), &idle, &[0, 0, 0]);
+    b.stores("S of a step not active", &two(&[block(1, 0, 2, 0)]), &idle, &[0, 0, 0]);
+    let elsewhere = [set.clone(), block(1, 0, 1, 0)];
+    b.stores("R of a step not active", &two(&elsewhere), &idle, &[1, 1, 1]);
+    let other = [set.clone(), block(2, 0, 1, 0)];
+    b.stores("R of another initial step", &two(&other), &idle, &[0, 0, 0]);
+    b.stores("S of another", &two(&[set.clone(), block(2, 0, 2, 0)]), &idle, &[1, 1, 1]);
+    b.stores("DS 0", &one(&[block(0, 0, 7, 0)]), &idle, &[1, 1, 1]);
+    b.stores("DS 1", &one(&[block(0, 0, 7, 1)]), &idle, &[0, 1, 1]);
+    b.stores("DS 5 and 6", &one(&[block(0, 0, 7, 6)]), &idle, &[0, 0, 1]);
+    b.stores("DS 0 of a step not active", &two(&[block(1, 0, 7, 0)]), &idle, &[0, 0, 0]);
+    let both = [block(0, 0, 7, 0), block(0, 0, 1, 0)];
+    b.stores("DS 0 and R", &one(&both), &idle, &[0, 0, 0]);
+    for q in [0, 3, 4, 5, 6, 8, 9, 10] {
+        b.stores("no other qualifier", &one(&[block(0, 0, q, 0)]), &idle, &[0, 0, 0]);
+    }
+    b.stores("no actions", &held_of(&[step(1)]), &idle, &[0, 0, 0]);
+    let all: Vec<Vec<u8>> = (0..32).map(|k| block(63, k, 2, 0)).collect();
+    let actions = action(0, 0).repeat(32);
+    let held = held_of(&[step(0).repeat(63), step(1), actions, all.concat()]);
+    b.stores("32 actions of step 63", &held, &idle, &[4_294_967_295; 3]);
+    b.check("what the start did", dones(&two(&other), &[]) == [(1, 1)]);
+    b.check("and two cycles", dones(&one(&[set]), &idle) == [(1, 0), (1, 0), (1, 0)]);
+}
+
+// Request (xi): "an action is stored exactly if some call set it and no call from that one on,
+// itself included, reset it" (set by S, kept after its step is left, reset by R of another step)
+fn check_stored_ring(b: &mut Bench) {
+    let held = held_ring();
+    let inputs = [0, 1, 0, 2, 0, 4, 0, 8, 0, 1];
+    let cycles: Vec<(u32, u32)> = (1..11).zip(inputs).collect();
+    let entries: Vec<Entry> = cycles.iter().map(|go| Entry::Cycle(go.0, go.1)).collect();
+    let words = [0, 0, 1, 1, 1, 1, 0, 0, 0, 0, 1];
+    b.stores("round the ring", &held, &entries, &words);
+    b.stores("in edition 2", &in_edition(&held, 2), &entries, &words);
+    let (s, r, none) = ((1, 0), (0, 1), (0, 0));
+    let did = [none, none, s, s, none, none, r, r, none, none, s];
+    b.check("what each call did", dones(&held, &entries) == did);
+    for count in 0..cycles.len() + 1 {
+        let part = shift_entry(cycles.get(..count).unwrap_or(&[]));
+        let word = at(&words, count);
+        b.stores("a shift up to there", &held, &[part.clone()], &[0, word]);
+        let did = did.get(..count + 1).unwrap_or(&[]);
+        b.check("each cycle a call of its own", dones(&held, &[part]) == did);
+    }
+    // From S straight to R, and from R straight to S.
+    let straight = |first, second| {
+        let blocks = [block(0, 0, first, 0), block(1, 0, second, 0)].concat();
+        held_of(&[step(1), step(0), action(0, 1), transition(1, 2, 1, 0, 0), blocks])
+    };
+    let entries = [Entry::Cycle(1, 0), Entry::Cycle(2, 1), Entry::Cycle(3, 0)];
+    b.stores("S, then R", &straight(2, 1), &entries, &[1, 1, 0, 0]);
+    b.stores("R, then S", &straight(1, 2), &entries, &[0, 0, 1, 1]);
+    b.stores("S, then S", &straight(2, 2), &entries, &[1, 1, 1, 1]);
+    b.stores("S, then N", &straight(2, 0), &entries, &[1, 1, 1, 1]);
+    b.stores("N, then R", &straight(0, 1), &entries, &[0, 0, 0, 0]);
+}
+
+// Request (xi): "no call from that one on, itself included, reset it" (S and R in one call; then
+// R's step is left while S's step stays active). Steps 0 (S) and 1 (R) are initial; 1 goes to 2 on
+// input 0 and comes back on input 1; 0 goes to 3 on input 2.
+fn check_stored_itself(b: &mut Bench) {
+    let moves = [transition(2, 4, 1, 0, 0), transition(4, 2, 2, 0, 0), transition(1, 8, 4, 0, 0)];
+    let steps = [step(1), step(1), step(0), step(0)].concat();
+    let blocks = [block(0, 0, 2, 0), block(1, 0, 1, 0)].concat();
+    let held = held_of(&[steps, action(0, 1), moves.concat(), blocks]);
+    let entries_of = |inputs: &[u32]| -> Vec<Entry> {
+        inputs.iter().zip(1..).map(|(word, clock)| Entry::Cycle(clock, *word)).collect()
+    };
+    let entries = entries_of(&[0, 1, 2, 1, 4, 2, 1]);
+    b.stores("R left, S stays", &held, &entries, &[0, 0, 1, 0, 1, 1, 0, 0]);
+    let (both, s, r, none) = ((1, 1), (1, 0), (0, 1), (0, 0));
+    let did = [both, both, s, both, s, none, r, none];
+    b.check("what each call did", dones(&held, &entries) == did);
+    // S's step is left while R's is active: the calls that set it were themselves reset.
+    b.stores("S left under R", &held, &entries_of(&[0, 4, 1, 0]), &[0, 0, 0, 0, 0]);
+    // Both are left in one call: nothing sets it any more.
+    b.stores("both left", &held, &entries_of(&[0, 5, 0]), &[0, 0, 0, 0]);
+    // Under hold nothing is left.
+    let entries = [
+        Entry::Hold,
+        Entry::Cycle(1, 1),
+        Entry::Release,
+        Entry::Cycle(2, 1),
+        Entry::Hold,
+        Entry::Cycle(3, 2),
+        Entry::Release,
+        Entry::Cycle(4, 2),
+    ];
+    b.stores("under hold", &held, &entries, &[0, 0, 0, 0, 1, 1, 1, 1, 0]);
+    let did = [both, both, both, both, s, s, s, s, both];
+    b.check("hold and release are calls", dones(&held, &entries) == did);
+}
+
+// Request (xi): "or an active DS block whose counter had reached its duration"
+fn check_stored_ds(b: &mut Bench) {
+    let go = |clock| Entry::Cycle(clock, 0);
+    let entries = [go(99), go(99), go(100), go(101), go(300)];
+    b.stores("DS 100", &held_ds(100), &entries, &[0, 0, 0, 1, 1, 1]);
+    b.check("DS 100, at it and above", {
+        dones(&held_ds(100), &entries) == [(0, 0), (0, 0), (0, 0), (1, 0), (1, 0), (1, 0)]
+    });
+    b.stores("DS 100, above at once", &held_ds(100), &[go(60_000)], &[0, 1]);
+    b.stores("DS 0", &held_ds(0), &[go(0), go(1)], &[1, 1, 1]);
+    b.stores("DS 1", &held_ds(1), &[go(0), go(1)], &[0, 0, 1]);
+    // 1,439 cycles of 60,000 ms, the last ms and the cap.
+    let long: Vec<(u32, u32)> = (1..1440).map(|k| (60_000 * k, 0)).collect();
+    let entries = [shift_entry(&long), go(86_399_999), go(86_400_000), go(86_450_000)];
+    b.stores("DS of the longest duration", &held_ds(86_400_000), &entries, &[0, 0, 0, 1, 1]);
+    // R of step 1: 2 goes there on input 0 and comes back on input 1, while DS's step stays.
+    let moves = [transition(4, 2, 1, 0, 0), transition(2, 4, 2, 0, 0)].concat();
+    let blocks = [block(0, 0, 7, 100), block(1, 0, 1, 0)].concat();
+    let held = held_of(&[step(1), step(0), step(1), action(0, 1), moves, blocks]);
+    let entries = [go(100), Entry::Cycle(110, 1), go(120), Entry::Cycle(130, 2)];
+    b.stores("DS above, R between", &held, &entries, &[0, 1, 0, 0, 1]);
+    let entries = [Entry::Cycle(10, 1), go(99), go(100), Entry::Cycle(101, 2)];
+    b.stores("DS reached under R", &held, &entries, &[0, 0, 0, 0, 1]);
+    let entries = [Entry::Cycle(10, 1), Entry::Cycle(99, 2), go(100)];
+    b.stores("R before DS is reached", &held, &entries, &[0, 0, 0, 1]);
+    // DS and S for one action, in two steps.
+    let held = held_ds_again(&[block(1, 0, 2, 0)]);
+    let entries = [go(50), Entry::Cycle(60, 1), Entry::Cycle(70, 2), go(80)];
+    b.stores("S before DS is reached", &held, &entries, &[0, 0, 1, 1, 1]);
+    let did = [(0, 0), (0, 0), (1, 0), (0, 0), (0, 0)];
+    b.check("S alone set it", dones(&held, &entries) == did);
+}
+
+// Request (xi): "an active DS block whose counter had reached its duration"; document 01: "A step
+// entered or inactive has counter 0." (a step left and entered again later)
+fn check_stored_ds_again(b: &mut Bench) {
+    let go = Entry::Cycle;
+    let held = held_ds_again(&[]);
+    let entries = [go(100, 0), go(150, 1), go(160, 2), go(259, 0), go(260, 0)];
+    b.stores("entered again, stored from before", &held, &entries, &[0, 1, 1, 1, 1, 1]);
+    let did = [(0, 0), (1, 0), (0, 0), (0, 0), (0, 0), (1, 0)];
+    b.check("not set anew", dones(&held, &entries) == did);
+    let counters = sequence_of(&held, &[go(100, 0), go(150, 1), go(160, 2)]).run.step_counters;
+    b.check("its counter is 0", counters == [0; 64]);
+    let reset = held_ds_again(&[block(1, 0, 1, 0)]);
+    b.stores("reset between, set anew", &reset, &entries, &[0, 1, 0, 0, 0, 1]);
+    let entries = [go(99, 0), go(100, 1), go(200, 0)];
+    b.stores("left when it was due", &held, &entries, &[0, 0, 0, 0]);
+    let entries = [go(60, 1), go(70, 2), go(100, 0), go(169, 0), go(170, 0)];
+    b.stores("the time before is lost", &held, &entries, &[0, 0, 0, 0, 0, 1]);
+    // DS 0 sets in the call that enters the step.
+    let records = [step(1), step(0), action(0, 1), transition(1, 2, 1, 0, 0)].concat();
+    let held = held_of(&[records, block(1, 0, 7, 0)]);
+    b.stores("DS 0, entered", &held, &[go(5, 0), go(5, 1), go(6, 0)], &[0, 0, 1, 1]);
+    // The counter of another step plays no part.
+    let records = [step(1), step(1), step(0), action(0, 1), transition(1, 4, 1, 0, 0)].concat();
+    let held = held_of(&[records, block(2, 0, 7, 100)]);
+    let entries = [go(100, 0), go(110, 1), go(209, 0), go(210, 0)];
+    b.stores("its own step's counter", &held, &entries, &[0, 0, 0, 0, 1]);
+}
+
+// Request (xi): "Hold and both editions are included."; request (vii): "In a cycle under hold ...
+// step counters stand still" (the clocks go on)
+fn check_stored_hold(b: &mut Bench) {
+    let go = |clock| Entry::Cycle(clock, 0);
+    let key = |inner: &[Entry]| [&[Entry::Hold], inner, &[Entry::Release]].concat();
+    let held = held_ds(100);
+    let short = [vec![go(99)], key(&[go(100), go(200), go(5000)]), vec![go(5000), go(5001)]];
+    let short = short.concat();
+    b.stores("one ms short under hold", &held, &short, &[0, 0, 0, 0, 0, 0, 0, 0, 1]);
+    let stood = sequence_of(&held, short.get(..7).unwrap_or(&[])).run;
+    b.check("the counter stood", at(&stood.step_counters, 0) == 99 && stood.clock == 5000);
+    let inner = shift_entry(&[(100, 0), (60_100, 0)]);
+    let long = [vec![go(99)], key(&[inner]), vec![go(60_101)]];
+    b.stores("one ms short, a shift", &held, &long.concat(), &[0, 0, 0, 0, 0, 1]);
+    let due = [vec![go(100)], key(&[go(101), go(102)]), vec![go(103)]].concat();
+    b.stores("at its duration under hold", &held, &due, &[0, 1, 1, 1, 1, 1, 1]);
+    b.check("hold and release set too", {
+        let did = dones(&held, &due);
+        did.len() == 7 && did.iter().skip(1).all(|call| *call == (1, 0))
+    });
+    b.stores("DS 0 under hold", &held_ds(0), &key(&[go(9)]), &[1, 1, 1, 1]);
+    // Round the ring: held in step 2, stored, and in step 3, reset.
+    let held = held_ring();
+    let move_on = Entry::Cycle;
+    let entries = [
+        vec![move_on(1, 1), move_on(2, 2)],
+        key(&[move_on(3, 4)]),
+        vec![move_on(4, 0), move_on(5, 4)],
+        key(&[move_on(6, 8)]),
+        vec![move_on(7, 8)],
+    ];
+    let words = [0, 1, 1, 1, 1, 1, 1, 0, 0, 0, 0, 0];
+    b.stores("kept over a hold", &held, &entries.concat(), &words);
+    let entries = [Entry::Hold, Entry::Hold, move_on(1, 1), Entry::Release, Entry::Release];
+    b.stores("nothing set under hold", &held, &entries, &[0, 0, 0, 0, 0, 0]);
+    let entries = [Entry::Release, move_on(1, 1), Entry::Hold, move_on(2, 2), move_on(3, 4)];
+    b.stores("S's step stays under hold", &held, &entries, &[0, 0, 1, 1, 1, 1]);
+}
+
+// Request (xi): "any sequence of accepted calls" (a refused one between adds nothing: what it would
+// have set is not stored, what it would have reset is)
+fn check_stored_refused(b: &mut Bench) {
+    let held = held_ring();
+    let go = Entry::Cycle;
+    let entries = [
+        (go(60_001, 1), (11, 0)),
+        (go(1, 1), (0, 1)),
+        (go(0, 2), (11, 1)),
+        (go(60_002, 2), (11, 1)),
+        (go(2, 2), (0, 1)),
+        (go(1, 4), (11, 1)),
+        (Entry::Hold, (0, 1)),
+        (go(1, 4), (11, 1)),
+        (Entry::Release, (0, 1)),
+        (go(3, 4), (0, 0)),
+        (go(2, 8), (11, 0)),
+        (go(4, 8), (0, 0)),
+        (go(3, 1), (11, 0)),
+        (shift_entry(&vec![(5, 1); 4097]), (18, 0)),
+        (shift_entry(&[(3, 1), (5, 1)]), (11, 0)),
+        (go(60_004, 1), (0, 1)),
+    ];
+    let (calls, wanted): (Vec<Entry>, Vec<(Code, u64)>) = entries.iter().cloned().unzip();
+    b.check("refused ones between", stored_after(&held, &calls) == [vec![(0, 0)], wanted].concat());
+    let (s, r, none) = ((1, 0), (0, 1), (0, 0));
+    b.check("they add nothing", dones(&held, &calls) == [none, s, none, none, none, r, none, s]);
+    // DS one ms short: a refused cycle at its duration does not set.
+    let entries = [go(99, 0), go(98, 0), go(60_100, 0), go(99, 0), go(100, 0)];
+    let wanted = [(0, 0), (0, 0), (11, 0), (11, 0), (0, 0), (0, 1)];
+    b.check("refused, one ms short", stored_after(&held_ds(100), &entries) == wanted);
+    // A chart that is refused: all is refused and the history is empty. (An all-zero chart is
+    // refused 5, for its edition; held with an edition, 9.)
+    let calls = [go(0, 0), Entry::Hold, Entry::Release, shift_entry(&[(0, 0)]), shift_entry(&[])];
+    for (code, edition) in [(5, 0), (9, 1), (9, 2)] {
+        let zero = in_edition(&hold(&Chart::default()), edition);
+        b.check("no chart", stored_after(&zero, &calls) == [(code, 0); 6]);
+        let sequence = sequence_of(&zero, &calls);
+        b.check("no history", sequence.history.is_empty() && sequence.run == zero_run());
+        b.check("no outputs", sequence.outputs == [0; 32]);
+    }
+}
+
+// Request (iii): "It stops at the first refused cycle and returns the number accepted"; request
+// (xi), with each accepted cycle of the shift as a call
+fn check_stored_shift(b: &mut Bench) {
+    let held = held_ring();
+    let one = |cycles: &[(u32, u32)]| {
+        let mut sequence = begin_sequence(&held.tables, 0).1;
+        let (code, accepted) = make_call(&mut sequence, &shift_entry(cycles));
+        let own = sequence.run.stored == stored_by_sentence(&sequence);
+        let calls = if own { sequence.history.len() } else { 99 };
+        (code, accepted, word_of(&stored_by_sentence(&sequence)), calls)
+    };
+    let five = [(1, 1), (2, 2), (3, 4), (4, 8), (5, 1)];
+    b.check("set, reset and set", one(&five) == (0, Some(5), 1, 6));
+    b.check("set within it and left", one(&[(1, 1), (2, 2)]) == (0, Some(2), 1, 3));
+    let four = [(1, 1), (2, 2), (3, 4), (4, 8)];
+    b.check("reset within it and left", one(&four) == (0, Some(4), 0, 5));
+    b.check("11 behind the set", one(&[(1, 1), (0, 2), (2, 2)]) == (11, Some(1), 1, 2));
+    let stopped = [(1, 1), (2, 2), (1, 4), (3, 4)];
+    b.check("11 before the reset", one(&stopped) == (11, Some(2), 1, 3));
+    let stopped = [(1, 1), (2, 2), (3, 4), (2, 8), (4, 8), (5, 1)];
+    b.check("11 behind the reset", one(&stopped) == (11, Some(3), 0, 4));
+    let stopped = [(1, 1), (2, 2), (3, 4), (4, 8), (60_005, 1)];
+    b.check("11 at the last", one(&stopped) == (11, Some(4), 0, 5));
+    b.check("11 at the first", one(&[(60_001, 1), (1, 1)]) == (11, Some(0), 0, 1));
+    b.check("no cycles", one(&[]) == (0, Some(0), 0, 1));
+    b.check("4,096 cycles", one(&[(1, 1); 4096]) == (0, Some(4096), 1, 4097));
+    b.check("4,097 cycles", one(&[(1, 1); 4097]) == (18, Some(0), 0, 1));
+}
+
+// The same with shifts among other calls, stopped in their middle by 11.
+fn check_stored_shift_among(b: &mut Bench) {
+    let held = held_ring();
+    let calls = [
+        Entry::Cycle(1, 1),
+        Entry::Hold,
+        shift_entry(&[(2, 2), (1, 2), (3, 2)]),
+        Entry::Release,
+        shift_entry(&[(3, 2), (4, 4), (3, 8), (5, 8)]),
+        Entry::Cycle(5, 8),
+        shift_entry(&[(6, 1), (7, 2), (60_008, 4)]),
+        Entry::Cycle(8, 0),
+    ];
+    let codes = [(0, 0), (0, 1), (0, 1), (11, 1), (0, 1), (11, 0), (0, 0), (11, 1), (0, 1)];
+    b.check("shifts among them", stored_after(&held, &calls) == codes);
+    let (s, r, none) = ((1, 0), (0, 1), (0, 0));
+    let did = [none, s, s, s, s, none, r, none, s, none, none];
+    b.check("what each call did", dones(&held, &calls) == did);
+    let sequence = sequence_of(&held, &calls);
+    b.check("the run", sequence.run.clock == 8 && word_of(&sequence.run.active) == 4);
+}
+
+// Request (xi): "Hold and both editions are included."; request (viii): "a step counts as entered
+// if it is a target and was inactive or left; then its counter is 0, otherwise it runs on"
+fn check_stored_editions(b: &mut Bench) {
+    let go = Entry::Cycle;
+    let held = held_places();
+    let entries = [go(99, 0), go(100, 1), go(199, 0), go(200, 0), go(201, 1), go(202, 0)];
+    b.stores("left and entered when due", &held, &entries, &[0, 0, 0, 0, 1, 1, 1]);
+    let (s, none) = ((1, 0), (0, 0));
+    let did = [none, none, none, none, s, none, none];
+    b.check("its counter begins anew", dones(&held, &entries) == did);
+    let first = in_edition(&held, 1);
+    b.stores("the same in edition 1", &first, &entries, &[0, 0, 1, 1, 1, 1, 1]);
+    let cycles = [(99, 0), (100, 1), (199, 0), (200, 0), (199, 1)];
+    b.check("a shift in edition 2", {
+        stored_after(&held, &[shift_entry(&cycles)]) == [(0, 0), (11, 1)]
+    });
+    let entries = [go(99, 0), Entry::Hold, go(100, 1), Entry::Release, go(100, 0), go(101, 0)];
+    b.stores("held, so not left", &held, &entries, &[0, 0, 0, 0, 0, 0, 1]);
+    // Step 0 goes on input 0 to step 1, which is active, not left and has DS 100.
+    let records = [step(1).repeat(2), action(0, 1), transition(1, 2, 1, 0, 0)].concat();
+    let held = held_of(&[records, block(1, 0, 7, 100), edition(2)]);
+    b.stores("a target that runs on", &held, &[go(99, 1), go(100, 0)], &[0, 0, 1]);
+    b.stores("a target when due", &held, &[go(99, 0), go(100, 1)], &[0, 0, 1]);
+    // Step 0 has R, step 1 S; 0 goes to 2 on input 0, 1 goes to 0 on input 1.
+    let moves = [transition(1, 4, 1, 0, 0), transition(2, 1, 2, 0, 0)].concat();
+    let steps = [step(1), step(1), step(0)].concat();
+    let blocks = [block(0, 0, 1, 0), block(1, 0, 2, 0)].concat();
+    let held = held_of(&[steps.clone(), action(0, 1), moves.clone(), blocks, edition(2)]);
+    b.stores("R left and entered", &held, &[go(1, 3), go(2, 0)], &[0, 0, 0]);
+    b.stores("R left", &held, &[go(1, 1), go(2, 2)], &[0, 1, 0]);
+    let first = in_edition(&held, 1);
+    b.stores("edition 1: R left, S stays", &first, &[go(1, 3), go(2, 0)], &[0, 1, 1]);
+    // Step 0 has S and step 3 (initial) R; 3 goes to 4 on input 2.
+    let more = [step(1), step(0), action(0, 1), moves, transition(8, 16, 4, 0, 0)].concat();
+    let blocks = [block(0, 0, 2, 0), block(3, 0, 1, 0)].concat();
+    let held = held_of(&[steps, more, blocks, edition(2)]);
+    b.stores("S left and entered, R left", &held, &[go(1, 7), go(2, 0)], &[0, 1, 1]);
+    b.stores("S and R left", &held, &[go(1, 5), go(2, 0)], &[0, 0, 0]);
+    b.stores("edition 1: S and R left", &in_edition(&held, 1), &[go(1, 7)], &[0, 0]);
+}
+
+// Request (xi): "an action is stored exactly if ..." (each action for itself)
+fn check_stored_apart(b: &mut Bench) {
+    let go = Entry::Cycle;
+    let steps = [step(1), step(0), step(0), step(0)].concat();
+    let blocks = [block(0, 0, 2, 0), block(1, 1, 2, 0), block(2, 0, 1, 0), block(3, 1, 1, 0)];
+    let held = held_of(&[steps.clone(), action(0, 1).repeat(2), ring_moves(), blocks.concat()]);
+    let entries = [go(1, 1), go(2, 2), go(3, 4), go(4, 8), go(5, 1)];
+    b.stores("two actions", &held, &entries, &[1, 3, 2, 0, 1, 3]);
+    let did = [(1, 0), (2, 0), (0, 1), (0, 2), (1, 0), (2, 0)];
+    b.check("what each call did", dones(&held, &entries) == did);
+    let blocks = [block(0, 0, 2, 0), block(0, 1, 1, 0), block(1, 0, 1, 0), block(1, 1, 2, 0)];
+    let moves = [transition(1, 2, 0, 0, 0), transition(2, 1, 0, 0, 0)].concat();
+    let records = [step(1), step(0), action(0, 1).repeat(2), moves].concat();
+    let held = held_of(&[records, blocks.concat()]);
+    b.stores("in turns", &held, &[go(1, 0), go(2, 0), go(3, 0)], &[1, 2, 1, 2]);
+    // Actions 0 and 31 of 32, and three DS with their own durations in one step.
+    let blocks = [block(0, 31, 2, 0), block(0, 0, 1, 0), block(1, 0, 2, 0), block(3, 31, 1, 0)];
+    let actions = action(0, 1).repeat(32);
+    let held = held_of(&[steps, actions, ring_moves(), blocks.concat()]);
+    let entries = [go(1, 1), go(2, 2), go(3, 4), go(4, 8)];
+    let last = 1 << 31;
+    b.stores("0 and 31", &held, &entries, &[last, last + 1, last + 1, 1, last]);
+    let blocks = [block(0, 0, 7, 10), block(0, 1, 7, 20), block(0, 2, 7, 0)].concat();
+    let held = held_of(&[step(1), action(0, 1).repeat(3), blocks]);
+    let entries = [go(9, 0), go(10, 0), go(19, 0), go(20, 0)];
+    b.stores("three durations", &held, &entries, &[4, 4, 5, 5, 7]);
+}
+
+// Request (xi), word for word: "an action is stored exactly if some call set it and no call from
+// that one on, itself included, reset it" (of 32 actions; with the calls counted from number
+// `first` on, where 0 is the start, and resets from so many calls `behind` that one on, where 0 is
+// itself)
+fn word_for_word(calls: &[Done], first: usize, behind: usize) -> Set {
+    let some_call = |action: &usize| {
+        (first..calls.len()).any(|call| {
+            let set_it = calls.get(call).map_or(false, |done| has(done.set, *action));
+            let mut from_that_one_on = calls.iter().skip(call + behind);
+            set_it && from_that_one_on.all(|done| !has(done.reset, *action))
+        })
+    };
+    (0..32).filter(some_call).collect()
+}
+
+// Request (xi): "some call set it and no call from that one on, itself included, reset it" (every
+// history of up to six calls, each of which sets or not and resets or not; once for action 0 and
+// once for action 31, with the other one set by all or reset by all)
+fn check_stored_histories(b: &mut Bench) {
+    for count in 0..7 {
+        let mut stored = 0;
+        for ways in 0..1u64 << (2 * count) {
+            for (action, other) in [(0, 31), (31, 0)] {
+                let done = |call: usize, set: u64, reset: u64| Done {
+                    set: u64::from(has(ways, 2 * call)) << action | set << other,
+                    reset: u64::from(has(ways, 2 * call + 1)) << action | reset << other,
+                };
+                let with_set: Vec<Done> = (0..count).map(|call| done(call, 1, 0)).collect();
+                let with_reset: Vec<Done> = (0..count).map(|call| done(call, 0, 1)).collect();
+                let wanted = word_for_word(&with_set, 0, 0);
+                let this = is_stored(&with_set, action);
+                b.check("word for word", this == wanted.contains(&action));
+                b.check("whatever another is", is_stored(&with_reset, action) == this);
+                b.check("the other, set by all", is_stored(&with_set, other) == (count > 0));
+                b.check("the other, reset by all", !is_stored(&with_reset, other));
+                stored += usize::from(this);
+            }
+        }
+        // The last call leaves it stored if it only sets, whatever was before, and as it was if it
+        // does nothing: 1 + 4 + 16 ... of the histories, for each of the two actions.
+        let by_hand: usize = (0..count as u32).map(|before| 4usize.pow(before)).sum();
+        b.check("as many as by hand", stored == 2 * by_hand);
+    }
+}
+
+// A chart drawn by lot: six steps, eight transitions and five actions, each with up to two S, two R
+// and an N block and mostly with a DS block.
+fn clamps_by_lot(lot: &mut u64) -> Held {
+    let mut records = vec![step(1)];
+    records.extend((0..5).map(|_| step((next_lot(lot) % 4 / 3) as u8)));
+    records.extend((0..5).map(|k| action(k, 1)));
+    records.extend((0..8).map(|_| transition_by_lot(lot)));
+    for k in 0..5 {
+        for q in [2, 2, 1, 1, 0] {
+            if next_lot(lot) % 2 == 0 {
+                records.push(block((next_lot(lot) % 6) as u8, k, q, 0));
+            }
+        }
+        if next_lot(lot) % 4 > 0 {
+            let duration = next_lot(lot) % 5 * 7;
+            records.push(block((next_lot(lot) % 6) as u8, k, 7, duration as u32));
+        }
+    }
+    held_of(&records)
+}
+
+// A cycle by lot behind this clock; one of so many is refused, with a clock one back.
+fn cycle_by_lot(lot: &mut u64, clock: u32, of: u64) -> (u32, u32) {
+    let late = next_lot(lot) as u32 % 15;
+    let inputs = next_lot(lot) as u32 % 8;
+    let back = next_lot(lot) % of == 0;
+    (if back { clock.wrapping_sub(1) } else { clock.wrapping_add(late) }, inputs)
+}
+
+// A call by lot behind this clock: a cycle, hold, release or a shift of up to eight cycles.
+fn entry_by_lot(lot: &mut u64, clock: u32) -> Entry {
+    match next_lot(lot) % 12 {
+        0 => Entry::Hold,
+        1 | 2 => Entry::Release,
+        3..=5 => {
+            let count = next_lot(lot) % 9;
+            let mut cycles: Vec<(u32, u32)> = Vec::new();
+            for _ in 0..count {
+                let last = cycles.last().map_or(clock, |go| go.0);
+                cycles.push(cycle_by_lot(lot, last, 12));
+            }
+            shift_entry(&cycles)
+        }
+        _ => {
+            let (clock, inputs) = cycle_by_lot(lot, clock, 8);
+            Entry::Cycle(clock, inputs)
+        }
+    }
+}
+
+// Request (iii): "the calls made singly" (the cycles of a shift; another call is itself alone)
+fn singles_of(entry: &Entry) -> Vec<Entry> {
+    match entry {
+        Entry::Shift(clocks, inputs) => {
+            clocks.iter().zip(inputs).map(|(clock, word)| Entry::Cycle(*clock, *word)).collect()
+        }
+        other => vec![other.clone()],
+    }
+}
+
+// What a call did by another way: all sets are words, and a DS block sets by this rule of counter
+// and duration.
+fn done_otherwise(held: &Held, run: &Run, ds: fn(u32, u32) -> bool) -> Done {
+    let active = word_of(&run.active);
+    let mut done = Done { set: 0, reset: 0 };
+    for block in held.tables.blocks.iter().filter(|block| has(active, block.step)) {
+        let counter = at(&run.step_counters, block.step);
+        match block.qualifier {
+            1 => done.reset |= 1 << block.action,
+            2 => done.set |= 1 << block.action,
+            7 if ds(counter, block.duration) => done.set |= 1 << block.action,
+            _ => {}
+        }
+    }
+    done
+}
+
+// One sequence by lot: the calls as they are, and beside them with the cycles of shifts made
+// singly; the runs after all accepted calls, and the numbers of those that end an entry.
+struct ByLot {
+    held: Held,
+    whole: Sequence,
+    alone: Sequence,
+    runs: Vec<Run>,
+    ends: Set,
+}
+
+// Its start.
+fn begin_by_lot(lot: &mut u64, edition: u8) -> ByLot {
+    let drawn = if next_lot(lot) % 4 == 0 { held_by_lot(lot) } else { clamps_by_lot(lot) };
+    let held = in_edition(&drawn, edition);
+    let clock = 4_294_967_200 + next_lot(lot) as u32 % 90;
+    let (_, whole) = begin_sequence(&held.tables, clock);
+    let (_, alone) = begin_sequence(&held.tables, clock);
+    let runs = vec![alone.run.clone()];
+    ByLot { held, whole, alone, runs, ends: numbers(1) }
+}
+
+// One call of it; the number and how many calls were accepted. After every accepted call the
+// sentence gives just what the run keeps as stored, and a shift leaves what its cycles leave.
+fn go_by_lot(b: &mut Bench, drawn: &mut ByLot, entry: &Entry) -> (Code, u64) {
+    let (mut code, mut accepted) = (0, 0);
+    for single in singles_of(entry) {
+        code = make_call(&mut drawn.alone, &single).0;
+        let kept = &drawn.alone.run.stored;
+        b.check("the sentence, by lot", stored_by_sentence(&drawn.alone) == *kept);
+        if code != 0 {
+            break;
+        }
+        accepted += 1;
+        drawn.runs.push(drawn.alone.run.clone());
+    }
+    let told = make_call(&mut drawn.whole, entry);
+    let count = if matches!(entry, Entry::Shift(..)) { Some(accepted) } else { None };
+    b.check("the number, by lot", told == (code, count));
+    b.check("singly, by lot", drawn.whole.run == drawn.alone.run);
+    b.check("the same history, by lot", drawn.whole.history == drawn.alone.history);
+    b.check("all accepted calls, by lot", drawn.whole.history.len() == drawn.runs.len());
+    if accepted > 0 {
+        drawn.ends.insert(drawn.runs.len() - 1);
+    }
+    (code, accepted)
+}
+
+// Request (xi): "After any sequence of accepted calls from a start, each given the run that the one
+// before returned ... Hold and both editions are included." (many charts and sequences by lot: the
+// sentence, that sentence word for word and the stored actions that the run keeps agree)
+fn check_stored_by_lot(b: &mut Bench) {
+    let mut lot = 67;
+    let (mut stopped, mut refused, mut under_hold, mut both, mut by_ds) = (0, 0, 0, 0, 0);
+    let (mut began, mut ended) = (0, 0);
+    let mut words = BTreeSet::new();
+    for edition in [1, 2].repeat(200) {
+        let mut drawn = begin_by_lot(&mut lot, edition);
+        let kept = &drawn.whole.run.stored;
+        b.check("the start by lot", stored_by_sentence(&drawn.whole) == *kept);
+        for _ in 0..30 {
+            let entry = entry_by_lot(&mut lot, drawn.whole.run.clock);
+            let before = drawn.whole.run.stored.clone();
+            let (code, accepted) = go_by_lot(b, &mut drawn, &entry);
+            let kept = &drawn.whole.run.stored;
+            let calls = &drawn.whole.history;
+            b.check("word for word, by lot", word_for_word(calls, 0, 0) == *kept);
+            stopped += usize::from(code == 11 && accepted > 0);
+            refused += usize::from(code == 11 && accepted == 0);
+            under_hold += usize::from(drawn.whole.run.hold_mark == 1);
+            began += kept.difference(&before).count();
+            ended += before.difference(kept).count();
+            words.insert(word_of(kept));
+        }
+        for (run, done) in drawn.runs.iter().zip(&drawn.whole.history) {
+            let reached = |counter, duration| counter >= duration;
+            b.check("done otherwise", done_otherwise(&drawn.held, run, reached) == *done);
+            both += usize::from(done.set & done.reset != 0);
+            by_ds += usize::from(done_otherwise(&drawn.held, run, |_, _| false) != *done);
+        }
+    }
+    b.check("stopped and refused, by lot", stopped > 200 && refused > 500);
+    b.check("hold, and both in one call, by lot", under_hold > 1000 && both > 1000);
+    b.check("begun, ended and by DS, by lot", began > 500 && ended > 200 && by_ds > 1000);
+    b.check("all words, by lot", words == (0..32).collect());
+}
+
+// The sentence as it is, and six that say something else: that one itself is not included; the
+// start is not counted; of a shift only its last cycle is counted; DS sets only above its duration;
+// DS sets at once; DS never sets.
+fn seven_sentences(drawn: &ByLot) -> [Set; 7] {
+    let did = |rule: fn(u32, u32) -> bool| -> Vec<Done> {
+        drawn.runs.iter().map(|run| done_otherwise(&drawn.held, run, rule)).collect()
+    };
+    let right = did(|counter, duration| counter >= duration);
+    let ends: Vec<Done> = drawn.ends.iter().filter_map(|k| right.get(*k).copied()).collect();
+    [
+        word_for_word(&right, 0, 0),
+        word_for_word(&right, 0, 1),
+        word_for_word(&right, 1, 0),
+        word_for_word(&ends, 0, 0),
+        word_for_word(&did(|counter, duration| counter > duration), 0, 0),
+        word_for_word(&did(|_, _| true), 0, 0),
+        word_for_word(&did(|_, _| false), 0, 0),
+    ]
+}
+
+// That the comparison would show a difference: each of the six other sentences gives something else
+// than the run keeps, now and then, in both editions.
+fn check_stored_teeth(b: &mut Bench) {
+    for edition in [1, 2] {
+        let mut lot = 73;
+        let mut differ = [0; 7];
+        for _ in 0..100 {
+            let mut drawn = begin_by_lot(&mut lot, edition);
+            for _ in 0..20 {
+                let entry = entry_by_lot(&mut lot, drawn.whole.run.clock);
+                go_by_lot(b, &mut drawn, &entry);
+                for (count, stored) in differ.iter_mut().zip(seven_sentences(&drawn)) {
+                    *count += usize::from(stored != drawn.whole.run.stored);
+                }
+            }
+        }
+        let [right, behind, start, ends, above, always, never] = differ;
+        b.check("the sentence as it is", right == 0);
+        b.check("itself not included", behind > 100);
+        b.check("the start not counted", start > 10);
+        b.check("a shift's inner cycles not counted", ends > 10);
+        b.check("DS only above its duration", above > 10);
+        b.check("DS at once, or never", always > 100 && never > 100);
+    }
+}
+
+// For the command line: an entry of `stored`.
+fn entry_bytes(entry: &Entry) -> Vec<u8> {
+    match entry {
+        Entry::Cycle(clock, inputs) => [vec![0], four_bytes(&[*clock, *inputs])].concat(),
+        Entry::Hold => vec![1],
+        Entry::Release => vec![2],
+        Entry::Shift(clocks, inputs) => {
+            let count = two_bytes(&[clocks.len() as u16]);
+            [vec![3], count, four_bytes(clocks), four_bytes(inputs)].concat()
+        }
+    }
+}
+
+// For the command line: a case of `stored`.
+fn stored_bytes(file: &[u8], clock: u32, entries: &[Entry]) -> Vec<u8> {
+    let length = two_bytes(&[file.len() as u16]);
+    let count = two_bytes(&[entries.len() as u16]);
+    let entries: Vec<u8> = entries.iter().flat_map(entry_bytes).collect();
+    [&length, file, &four_bytes(&[clock]), &count, &entries].concat()
+}
+
+// For the command line: the lines of an input of `stored`, and whether nothing is left of it.
+fn stored_lines(input: &[u8]) -> (String, bool) {
+    let mut fields = Fields::new(input);
+    let mut lines = Vec::new();
+    while let Some(line) = stored_case(&mut fields) {
+        lines.extend(line);
+    }
+    (String::from_utf8(lines).unwrap_or_default(), fields.place == input.len())
+}
+
+// For the command line: lines of `stored`, by hand, byte for byte.
+fn check_stored_lines(b: &mut Bench) {
+    let whole = |line: &str| (line.to_string(), true);
+    let line = |file: &[u8], clock, entries: &[Entry]| {
+        stored_lines(&stored_bytes(file, clock, entries))
+    };
+    let go = Entry::Cycle;
+    // One step; start at 1000, a cycle at 1008 with inputs 7, hold, release, a shift of two cycles.
+    let head = vec![9, 0, 1, 0, 1, 0, 1, 0, 0, 0, 0, 232, 3, 0, 0, 4, 0];
+    let calls = vec![0, 240, 3, 0, 0, 7, 0, 0, 0, 1, 2, 3, 2, 0, 241, 3, 0, 0, 242, 3, 0, 0];
+    let input = [head, calls, vec![0; 8]].concat();
+    let text = "0 1 0 c 0 1 0 c 0:8 0 1 0 c 0:8 0 1 0 c 0:8 0 2 1 0 c 0:10\n";
+    b.check("every byte", stored_lines(&input) == whole(text));
+    let entries = [
+        go(1010, 1),
+        Entry::Hold,
+        go(1100, 2),
+        Entry::Release,
+        shift_entry(&[(1200, 0), (1599, 2), (1600, 2)]),
+        go(1599, 0),
+        go(1650, 0),
+        shift_entry(&[(1700, 1), (1750, 0), (1749, 2), (1800, 2)]),
+    ];
+    let told = [
+        "0 1 0 c 0 2 2 c 0 2 2 c 0 2 2 c 0 2 2 c",
+        "0 3 1 0 c 11 1 0 c 0 1 0 c 0:50 11 2 2 2 c 1:50\n",
+    ];
+    b.check("chart A", line(&chart_a(), 1000, &entries) == whole(&told.join(" ")));
+    let second = line(&chart_a_second(), 1000, &entries);
+    b.check("chart A in edition 2", second == whole(&told.join(" ")));
+}
+
+// For the command line: lines of `stored` with nothing behind the start, with shifts of nothing,
+// over the clock's turn, and the widest.
+fn check_stored_wide_lines(b: &mut Bench) {
+    let whole = |line: &str| (line.to_string(), true);
+    let line = |file: &[u8], clock, entries: &[Entry]| {
+        stored_lines(&stored_bytes(file, clock, entries))
+    };
+    let go = Entry::Cycle;
+    b.check("no entries", line(&chart_a(), 1000, &[]) == whole("0 1 0 c\n"));
+    let shifts = [shift_entry(&[]), shift_entry(&[(0, 0); 4097]), shift_entry(&[(999, 0)])];
+    let text = "0 1 0 c 0 0 1 0 c 18 0 1 0 c 11 0 1 0 c\n";
+    b.check("shifts of nothing", line(&chart_a(), 1000, &shifts) == whole(text));
+    let one = [step(1), action(0, 1), block(0, 0, 7, 496), end()].concat();
+    let text = "0 1 0 c 0 1 0 c 0:495 0 1 1 c 0:496\n";
+    let turned = line(&one, 4_294_967_000, &[go(199, 0), go(200, 0)]);
+    b.check("over the clock's turn", turned == whole(text));
+    // All 64 steps and all 32 actions.
+    let blocks: Vec<Vec<u8>> = (0..32).map(|k| block(63, k, 2, 0)).collect();
+    let full = [step(1).repeat(64), action(0, 0).repeat(32), blocks.concat(), end()].concat();
+    let counters: String = (0..64).map(|k| format!(" {}:{}", k, 60_000)).collect();
+    let both = "18446744073709551615 4294967295 c";
+    let text = format!("0 {} 0 {}{}\n", both, both, counters);
+    b.check("the widest", line(&full, 0, &[go(60_000, 0)]) == whole(&text));
+}
+
+// For the command line: the line tells what the history says, not what the run keeps.
+fn check_stored_told(b: &mut Bench) {
+    let mut sequence = sequence_of(&held_ring(), &[Entry::Cycle(1, 1), Entry::Cycle(2, 2)]);
+    let told = |sequence: &Sequence| values_of_call(sequence, 0, None).join(" ");
+    b.check("told", told(&sequence) == "0 4 1 c");
+    sequence.run.stored = Set::new();
+    b.check("not by the run", told(&sequence) == "0 4 1 c");
+    sequence.history.push(Done { set: 1, reset: 1 });
+    b.check("but by the history", told(&sequence) == "0 4 0 c");
+    let counted = values_of_call(&sequence, 11, Some(7)).join(" ");
+    b.check("with a shift's count", counted == "11 7 4 0 c");
+}
+
+// For the command line: a refused chart, one case behind the other, cut cases and other kinds.
+fn check_stored_cases(b: &mut Bench) {
+    let whole = |line: &str| (line.to_string(), true);
+    let shift_of_two = shift_entry(&[(1, 0), (2, 0)]);
+    let entries = [Entry::Cycle(0, 1), Entry::Hold, Entry::Release, shift_of_two];
+    let refused = "5 0 0 c 5 0 0 c 5 0 0 c 5 0 0 c 5 0 0 0 c\n";
+    let surplus = [chart_a(), vec![0]].concat();
+    let files = [vec![], end(), surplus, [step(1), edition(1), end()].concat()];
+    for file in files.iter() {
+        let line = stored_lines(&stored_bytes(file, 9, &entries));
+        b.check("a refused chart", line == whole(refused));
+        let line = stored_lines(&stored_bytes(file, 9, &[]));
+        b.check("a refused chart alone", line == whole("5 0 0 c\n"));
+    }
+    let good = stored_bytes(&chart_a(), 0, &entries);
+    let text = "0 1 0 c 0 2 2 c 0 2 2 c 0 2 2 c 0 2 2 2 c 1:2\n";
+    b.check("chart A from 0", stored_lines(&good) == whole(text));
+    let bad = stored_bytes(&[], 0, &entries);
+    let three = [good.clone(), bad.clone(), good.clone()].concat();
+    let texts = [text, refused, text].concat();
+    b.check("one behind the other", stored_lines(&three) == whole(&texts));
+    b.check("nothing", stored_lines(&[]) == whole(""));
+    for length in 1..good.len() {
+        let cut = good.get(..length).unwrap_or(&[]);
+        b.check("a cut case", stored_lines(cut).0.is_empty());
+        let behind = [&bad, cut].concat();
+        b.check("a cut case behind", stored_lines(&behind).0 == refused);
+    }
+    b.check("the first entry's place", good.get(158..161) == Some(&[4, 0, 0][..]));
+    for kind in 4..=255 {
+        let mut other = good.clone();
+        put(&mut other, 160, kind);
+        let input = [good.clone(), other, good.clone()].concat();
+        b.check("another kind", stored_lines(&input) == (text.to_string(), false));
+    }
+    for entry in entries.iter() {
+        let bytes = entry_bytes(entry);
+        let read = entry_image(&mut Fields::new(&bytes));
+        b.check("an entry read", read.as_ref() == Some(entry));
     }
 }
 
