@@ -85,7 +85,9 @@ struct tw_chart {
 	uint8_t edition;						/* 1 or 2 */
 };
 
-/* A run of a chart. */
+/* A run of a chart. After any calls from a start, each on the run that the one before left, an action is in `stored` exactly if some accepted call set it,
+   the start counted, and no call from that one on, itself included, reset it: set, by an S block of a step that is active after the call, or a DS block
+   of one whose counter has then reached its duration; reset, by an R block of such a step. */
 struct tw_run {
 	uint32_t clock;							/* ms, of the last accepted call */
 	uint64_t active;						/* the active steps */
