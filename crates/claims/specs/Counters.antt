@@ -7,7 +7,6 @@ use mathlib.Core.Logic.{_⊎_, inl, inr}
 use mathlib.Core.Path.{_≡_, refl, ap, _∙_}
 use native.Mathlib.Omega.{arith}
 use lib.ListN.{getD, replicate, getD-replicate}
-use lib.Dec.{eqb}
 use borrow.Author.Tests.{not-true}
 use Rattle.sets.specs.Sets.{has}
 use Rattle.sets.proofs.Loops.{and-true, or-true, neither, getD-table}
@@ -17,17 +16,17 @@ use Rattle.chart.specs.Held.{initialAt}
 use Rattle.chart.specs.declared.chart.Chart.{Chart}
 use Rattle.choice.specs.Choice.{held}
 use Rattle.acting.specs.Acting.{keptCount}
-use Rattle.run.specs.Run.{noRun, longest, longer, counter}
+use Rattle.run.specs.Run.{longest, longer, counter}
 use Rattle.run.specs.declared.run.StepCounter.{StepCounter}
 use Rattle.run.specs.declared.run.Run.{Run}
 use Rattle.passes.specs.Time.{elapsed, stepTime, grownCount}
-use Rattle.cycle.specs.Cycling.{refused, startCode, started, startOf, cycled}
+use Rattle.cycle.specs.Cycling.{refused, startOf, cycled}
 use Rattle.cycle.specs.declared.cycling.Cycled.{Cycled}
 use Rattle.key.specs.Turning.{markOf, marked, turnedAs}
 use Rattle.claims.specs.Editions.{targetIn, Stepped, stepped}
 use Rattle.claims.specs.Fair.{begins}
 use Rattle.claims.specs.Ledger.{initial-has}
-use Rattle.claims.specs.Runs.{Cycle, Call, cycle, keyed, answer, each-answer, after, begun}
+use Rattle.claims.specs.Runs.{Cycle, Call, cycle, keyed, answer, each-answer, after, begun, each-start}
 use Rattle.claims.specs.Tally.{leftIn, ever}
 
 -- step k's counter in a run
@@ -109,11 +108,10 @@ module _ (c : Chart) (k : ℕ) (l : k < 64) where
 
 -- a start has every counter 0
 start-counters : (c : Chart) (clock lent k : ℕ) → k < 64 → counterIn (begun c clock lent) k ≡ 0
-start-counters c clock lent k l = go (eqb (startCode c lent) 0)
-  where
-    go : (b : Bool) → counterIn (cond b (started c clock) (refused (startCode c lent) noRun) .run) k ≡ 0
-    go true = ap (λ (n : StepCounter). n .0) (getD-table (λ j. counter (keptCount 0 j (getD (replicate 64 0) j 0))) 64 k (counter 0) l) ∙ ap (λ (b : Bool). cond b (getD (replicate 64 0) k 0) 0) (has-zero k)
-    go false = ap (λ (n : StepCounter). n .0) (getD-replicate 64 k (counter 0) (counter 0) l)
+start-counters c clock lent k l =
+    each-start (λ o. counterIn (o .run) k ≡ 0) c clock lent
+    (λ e. ap (λ (n : StepCounter). n .0) (getD-table (λ j. counter (keptCount 0 j (getD (replicate 64 0) j 0))) 64 k (counter 0) l) ∙ ap (λ (b : Bool). cond b (getD (replicate 64 0) k 0) 0) (has-zero k))
+    (λ code z. ap (λ (n : StepCounter). n .0) (getD-replicate 64 k (counter 0) (counter 0) l))
 
 -- ---- the theorems
 

@@ -1,10 +1,9 @@
 -- What one answer does to the active steps: all that the ledger and the weights rely on.
 use Prim.Native.Nat.{ℕ, _+_, _≤_, _<_}
-use mathlib.Core.Bool.{Bool, true, false, cond}
+use mathlib.Core.Bool.{Bool, false}
 use mathlib.Core.Path.{_≡_, refl}
 use native.Mathlib.Omega.{arith}
-use lib.Dec.{leb, eqb}
-use borrow.Author.Tests.{eqb-true, eqb-false}
+use lib.Dec.{leb}
 use Rattle.sets.specs.Sets.{has}
 use Rattle.sets.proofs.Loops.{else-zero}
 use Rattle.sets.proofs.Members.{has-zero}
@@ -14,16 +13,15 @@ use Rattle.chart.specs.Initial.{initialSet}
 use Rattle.chart.specs.declared.chart.Chart.{Chart}
 use Rattle.chart.proofs.held.Sound.{sound}
 use Rattle.choice.specs.Choice.{noneTaken}
-use Rattle.run.specs.Run.{noRun}
 use Rattle.run.specs.declared.run.Run.{Run}
 use Rattle.passes.specs.Moving.{signalsOf}
-use Rattle.cycle.specs.Cycling.{refused, startCode, started, startOf, countsAt, choiceOf, cycled}
+use Rattle.cycle.specs.Cycling.{refused, startOf, countsAt, choiceOf, cycled}
 use Rattle.cycle.specs.declared.cycling.Cycled.{Cycled}
 use Rattle.cycle.proofs.cycling.Laws.{cycle-passed}
 use Rattle.key.specs.Turning.{markOf, marked, turnedAs}
 use Rattle.claims.specs.AtLeast.{AtLeast}
 use Rattle.claims.specs.Moves.{among, Chosen, none-is, choice-is, moved}
-use Rattle.claims.specs.Runs.{Call, keyed, answer, each-answer, begun, one}
+use Rattle.claims.specs.Runs.{Call, keyed, answer, each-answer, begun, each-start, one}
 
 -- an answer o to a call that was given the run r: accepted, each step's arrivals plus its activity before are its departures plus its activity
 -- after, by the taken transitions, and in the second edition at least that; refused, the run is the one that was given; and what is taken is a
@@ -78,11 +76,6 @@ pub record Begins (c : Chart) (r : Run) : Type 0 where
   pub initial : r .active ≡ initialSet (c .steps) (c .initial)
 
 pub begins : (c : Chart) (clock lent : ℕ) → startOf c clock lent .code ≡ 0 → Begins c (begun c clock lent)
-begins c clock lent = go (eqb (startCode c lent) 0) refl
-  where
-    go : (b : Bool) → eqb (startCode c lent) 0 ≡ b → cond b (started c clock) (refused (startCode c lent) noRun) .code ≡ 0
-        → Begins c (cond b (started c clock) (refused (startCode c lent) noRun) .run)
-    go true e h =
-        let a = else-zero (unless (leb 32 lent) 15) (chartCode c) (eqb-true _ 0 e) in
-        record { few = sound c (a .1) .limits .steps; initial = refl }
-    go false e h = absurd (eqb-false _ 0 e h)
+begins c clock lent =
+    each-start (λ o. o .code ≡ 0 → Begins c (o .run)) c clock lent
+    (λ e h. record { few = sound c (else-zero (unless (leb 32 lent) 15) (chartCode c) e .1) .limits .steps; initial = refl }) (λ code z h. absurd (z h))

@@ -21,7 +21,7 @@ use Rattle.acting.specs.declared.Steps.{Steps}
 use Rattle.acting.specs.declared.Request.{Request}
 use Rattle.acting.specs.declared.Asked.{Asked}
 use Rattle.acting.specs.declared.Acted.{Acted}
-use Rattle.run.specs.Run.{noRun, longest, longer, counter, timer}
+use Rattle.run.specs.Run.{longest, longer, counter, timer}
 use Rattle.run.specs.Apart.{countsOf}
 use Rattle.run.specs.Belongs.{countFits, namesFit, countersFit, timersFit, belongs}
 use Rattle.run.specs.declared.run.ActionTimer.{ActionTimer}
@@ -30,12 +30,12 @@ use Rattle.run.proofs.belongs.Laws.{Own, own}
 use Rattle.passes.specs.Time.{elapsed, grownCount, grownTime, grownCounts}
 use Rattle.passes.specs.Choosing.{movedTo, enteredBy, stepsOf}
 use Rattle.passes.specs.Moving.{goodAt, badAt, marksOf, signalsOf}
-use Rattle.cycle.specs.Cycling.{refused, startCode, started, startOf, actedOn, countsAt, timesAt, cycled}
+use Rattle.cycle.specs.Cycling.{startOf, actedOn, countsAt, timesAt, cycled}
 use Rattle.cycle.specs.declared.cycling.Cycled.{Cycled}
 use Rattle.cycle.proofs.cycling.Laws.{cycle-passed}
 use Rattle.cycle.proofs.bounds.Sound.{asked-same}
 use Rattle.claims.specs.Numbers.{cycle-code}
-use Rattle.claims.specs.Runs.{Cycle, cycle, answer}
+use Rattle.claims.specs.Runs.{Cycle, cycle, answer, each-start}
 
 -- "nothing entered or left": the steps that are active, all with their counters
 abbrev pub standing : Run → Steps
@@ -165,8 +165,4 @@ other-mark c r l =
 
 -- a start is not held, accepted or refused
 pub start-unheld : (c : Chart) (clock lent : ℕ) → startOf c clock lent .run .hold ≡ 0
-start-unheld c clock lent = go (eqb (startCode c lent) 0)
-  where
-    go : (b : Bool) → cond b (started c clock) (refused (startCode c lent) noRun) .run .hold ≡ 0
-    go true = refl
-    go false = refl
+start-unheld c clock lent = each-start (λ o. o .run .hold ≡ 0) c clock lent (λ e. refl) (λ code z. refl)

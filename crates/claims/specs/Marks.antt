@@ -7,7 +7,7 @@ use native.Mathlib.Nat.{add-zero}
 use native.Mathlib.Omega.{arith}
 use lib.ListN.{getD}
 use lib.Dec.{eqb, leb}
-use borrow.Author.Tests.{eqb-true, ne-eqb}
+use borrow.Author.Tests.{ne-eqb}
 use Rattle.sets.specs.Loops.{some, summed, counted}
 use Rattle.sets.specs.Sets.{has, union, collect}
 use Rattle.sets.proofs.Loops.{or-true, or-false, none-some, else-zero}
@@ -17,16 +17,15 @@ use Rattle.fields.specs.Fields.{unless}
 use Rattle.chart.specs.Held.{chartCode}
 use Rattle.chart.specs.declared.chart.Chart.{Chart}
 use Rattle.chart.proofs.held.Sound.{sound}
-use Rattle.run.specs.Run.{noRun}
 use Rattle.run.specs.Belongs.{belongs}
 use Rattle.run.specs.declared.run.Run.{Run}
 use Rattle.passes.specs.Moving.{signalsOf, asExpected, marksOf}
-use Rattle.cycle.specs.Cycling.{refused, startCode, started, startOf, countsAt, choiceOf, cycled}
+use Rattle.cycle.specs.Cycling.{refused, startOf, countsAt, choiceOf, cycled}
 use Rattle.cycle.specs.declared.cycling.Cycled.{Cycled}
 use Rattle.cycle.proofs.cycling.Kept.{cycle-keeps}
 use Rattle.key.specs.Turning.{markOf, marked, turnedAs}
 use Rattle.key.proofs.turning.Laws.{key-keeps}
-use Rattle.claims.specs.Runs.{Call, cycle, turn, keyed, answer, each-answer, inputsOf, after, begun, one}
+use Rattle.claims.specs.Runs.{Call, cycle, turn, keyed, answer, each-answer, inputsOf, after, begun, each-start, one}
 use Rattle.claims.specs.Moves.{choice-is}
 
 -- ---- the marks x and y of a case, in terms of how its step was left: a at all, g with the signal as expected, b with it otherwise
@@ -136,11 +135,8 @@ module _ (c : Chart) (passes : chartCode c ≡ 0) (i : ℕ) (l : i < c .cases) w
 
 -- its chart passed
 pub start-passes : (c : Chart) (clock lent : ℕ) → startOf c clock lent .code ≡ 0 → chartCode c ≡ 0
-start-passes c clock lent h = else-zero (unless (leb 32 lent) 15) (chartCode c) (go (eqb (startCode c lent) 0) refl h) .1
-  where
-    go : (b : Bool) → eqb (startCode c lent) 0 ≡ b → cond b (started c clock) (refused (startCode c lent) noRun) .code ≡ 0 → startCode c lent ≡ 0
-    go true e h = eqb-true _ 0 e
-    go false e h = h
+start-passes c clock lent =
+    each-start (λ o. o .code ≡ 0 → chartCode c ≡ 0) c clock lent (λ e h. else-zero (unless (leb 32 lent) 15) (chartCode c) e .1) (λ code z h. absurd (z h))
 
 -- no mark of case i is set
 pub record Unmarked (r : Run) (i : ℕ) : Type 0 where
@@ -149,11 +145,8 @@ pub record Unmarked (r : Run) (i : ℕ) : Type 0 where
 
 -- a start sets none
 pub start-unmarked : (c : Chart) (clock lent i : ℕ) → Unmarked (begun c clock lent) i
-start-unmarked c clock lent i = go (eqb (startCode c lent) 0)
-  where
-    go : (b : Bool) → Unmarked (cond b (started c clock) (refused (startCode c lent) noRun) .run) i
-    go true = record { good = has-zero i; bad = has-zero i }
-    go false = record { good = has-zero i; bad = has-zero i }
+start-unmarked c clock lent i =
+    each-start (λ o. Unmarked (o .run) i) c clock lent (λ e. record { good = has-zero i; bad = has-zero i }) (λ code z. record { good = has-zero i; bad = has-zero i })
 
 -- after any calls the run still belongs to the chart
 pub after-belongs : (c : Chart) (r : Run) (xs : List Call) → belongs c r ≡ true → belongs c (after c r xs) ≡ true

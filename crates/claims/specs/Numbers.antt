@@ -38,6 +38,7 @@ use Rattle.tally.specs.Tallying.{countsOf, refused as uncounted, tallyOf}
 use Rattle.tally.specs.Weighing.{balanced, unbalanced, unbalancedIn, weighCode, refused as unweighed, weighed, weighOf}
 use Rattle.tally.specs.declared.tallying.Tallied.{Tallied}
 use Rattle.tally.specs.declared.weighing.Weighed.{Weighed}
+use Rattle.claims.specs.Runs.{each-start}
 
 -- ---- an answer by its number
 
@@ -63,11 +64,7 @@ start-code c clock lent = picked (λ (o : Cycled). o .code) (startCode c lent) (
 
 -- a start explains nothing, accepted or refused
 pub start-reasons : (c : Chart) (clock lent : ℕ) → startOf c clock lent .reasons ≡ noReasons
-start-reasons c clock lent = go (eqb (startCode c lent) 0)
-  where
-    go : (b : Bool) → cond b (started c clock) (turned-away (startCode c lent) noRun) .reasons ≡ noReasons
-    go true = refl
-    go false = refl
+start-reasons c clock lent = each-start (λ o. o .reasons ≡ noReasons) c clock lent (λ e. refl) (λ code z. refl)
 
 pub cycle-code : (c : Chart) (r : Run) (clock inputs lent : ℕ) → cycleOf c r clock inputs lent .code ≡ cycleCode c r clock lent
 cycle-code c r clock inputs lent =

@@ -23,11 +23,11 @@ use Rattle.choice.specs.declared.Choice.{Choice}
 use Rattle.choice.proofs.Laws.{taken-as-before, reason-under-most, reasons-at, second-reason}
 use Rattle.run.specs.declared.run.Run.{Run}
 use Rattle.passes.specs.Moving.{signalsOf}
-use Rattle.cycle.specs.Cycling.{refused, cycleCode, countsAt, cycled}
+use Rattle.cycle.specs.Cycling.{refused, countsAt, cycled}
 use Rattle.passes.specs.Explaining.{noReasons}
 use Rattle.cycle.specs.declared.cycling.Cycled.{Cycled}
 use Rattle.cycle.proofs.cycling.Laws.{cycle-passed}
-use Rattle.claims.specs.Runs.{Cycle, cycle, answer}
+use Rattle.claims.specs.Runs.{Cycle, cycle, answer, each-cycle}
 use Rattle.claims.specs.Moves.{has-insert, chosen-is}
 
 -- P holds of every member of the set s
@@ -305,9 +305,6 @@ cycled-explained c r x few =
 
 -- every answer of the cycle is so, whatever the chart, the run and the call
 pub explained : (c : Chart) (r : Run) (x : Cycle) → Explained c r x (answer c r (cycle x))
-explained c r x = go (eqb (cycleCode c r (x .clock) (x .lent)) 0) refl
-  where
-    go : (b : Bool) → eqb (cycleCode c r (x .clock) (x .lent)) 0 ≡ b
-        → Explained c r x (cond b (cycled c r (x .clock) (x .inputs)) (refused (cycleCode c r (x .clock) (x .lent)) r))
-    go true e = cycled-explained c r x (sound c (cycle-passed c r (x .clock) (x .lent) (eqb-true _ 0 e) .chart) .limits .transitions)
-    go false e = refused-explained c r x (cycleCode c r (x .clock) (x .lent)) (eqb-false _ 0 e)
+explained c r x =
+    each-cycle (Explained c r x) c r x
+    (λ e. cycled-explained c r x (sound c (cycle-passed c r (x .clock) (x .lent) e .chart) .limits .transitions)) (λ code z. refused-explained c r x code z)

@@ -8,10 +8,11 @@ use lib.Dec.{eqb}
 use borrow.Author.Tests.{eqb-true, eqb-false}
 use Rattle.sets.specs.Sets.{has}
 use Rattle.chart.specs.declared.chart.Chart.{Chart}
+use Rattle.run.specs.Run.{noRun}
 use Rattle.run.specs.Belongs.{ownCode}
 use Rattle.run.specs.declared.run.Run.{Run}
 use Rattle.passes.specs.Explaining.{noReasons}
-use Rattle.cycle.specs.Cycling.{refused, cycleCode, startOf, cycled, cycleOf}
+use Rattle.cycle.specs.Cycling.{refused, startCode, cycleCode, started, startOf, cycled, cycleOf}
 use Rattle.cycle.specs.declared.cycling.Cycled.{Cycled}
 use Rattle.key.specs.Turning.{markOf, marked, turnedAs, turnOf}
 use Rattle.key.specs.declared.turning.Turned.{Turned}
@@ -42,18 +43,22 @@ abbrev pub answer : Chart → Run → Call → Cycled
 answer c r (cycle x) = cycleOf c r (x .clock) (x .inputs) (x .lent)
 answer c r (turn held) = keyed (turnOf held c r)
 
--- what holds of an accepted cycle, of an accepted turn of the key and of a refusal holds of every answer
+-- what holds of an accepted cycle and of a refusal holds of every cycle
+pub each-cycle : (P : Cycled → Type 0) (c : Chart) (r : Run) (x : Cycle)
+    → (cycleCode c r (x .clock) (x .lent) ≡ 0 → P (cycled c r (x .clock) (x .inputs))) → ((code : ℕ) → (code ≡ 0 → ⊥) → P (refused code r)) → P (answer c r (cycle x))
+each-cycle P c r x cycles refuses = go (eqb (cycleCode c r (x .clock) (x .lent)) 0) refl
+  where
+    go : (b : Bool) → eqb (cycleCode c r (x .clock) (x .lent)) 0 ≡ b → P (cond b (cycled c r (x .clock) (x .inputs)) (refused (cycleCode c r (x .clock) (x .lent)) r))
+    go true e = cycles (eqb-true _ 0 e)
+    go false e = refuses (cycleCode c r (x .clock) (x .lent)) (eqb-false _ 0 e)
+
+-- and with an accepted turn of the key it holds of every answer
 pub each-answer : (P : Call → Cycled → Type 0) (c : Chart) (r : Run)
     → ((x : Cycle) → cycleCode c r (x .clock) (x .lent) ≡ 0 → P (cycle x) (cycled c r (x .clock) (x .inputs)))
     → ((held : Bool) → P (turn held) (keyed (turnedAs 0 (marked (markOf held) r))))
     → ((x : Call) (code : ℕ) → (code ≡ 0 → ⊥) → P x (refused code r))
     → (x : Call) → P x (answer c r x)
-each-answer P c r cycles turns refuses (cycle x) = go (eqb (cycleCode c r (x .clock) (x .lent)) 0) refl
-  where
-    go : (b : Bool) → eqb (cycleCode c r (x .clock) (x .lent)) 0 ≡ b
-        → P (cycle x) (cond b (cycled c r (x .clock) (x .inputs)) (refused (cycleCode c r (x .clock) (x .lent)) r))
-    go true e = cycles x (eqb-true _ 0 e)
-    go false e = refuses (cycle x) (cycleCode c r (x .clock) (x .lent)) (eqb-false _ 0 e)
+each-answer P c r cycles turns refuses (cycle x) = each-cycle (P (cycle x)) c r x (cycles x) (refuses (cycle x))
 each-answer P c r cycles turns refuses (turn held) = go (eqb (ownCode c r) 0) refl
   where
     go : (b : Bool) → eqb (ownCode c r) 0 ≡ b → P (turn held) (keyed (cond b (turnedAs 0 (marked (markOf held) r)) (turnedAs (ownCode c r) r)))
@@ -100,3 +105,12 @@ departures c k h = howMany (λ t. has (getD (c .sources) t 0) k) h
 -- the run that a start returns
 abbrev pub begun : Chart → ℕ → ℕ → Run
 begun c clock lent = startOf c clock lent .run
+
+-- what holds of an accepted start and of a refusal holds of every start
+pub each-start : (P : Cycled → Type 0) (c : Chart) (clock lent : ℕ) → (startCode c lent ≡ 0 → P (started c clock)) → ((code : ℕ) → (code ≡ 0 → ⊥) → P (refused code noRun))
+    → P (startOf c clock lent)
+each-start P c clock lent starts refuses = go (eqb (startCode c lent) 0) refl
+  where
+    go : (b : Bool) → eqb (startCode c lent) 0 ≡ b → P (cond b (started c clock) (refused (startCode c lent) noRun))
+    go true e = starts (eqb-true _ 0 e)
+    go false e = refuses (startCode c lent) (eqb-false _ 0 e)

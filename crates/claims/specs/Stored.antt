@@ -8,7 +8,7 @@ use mathlib.Core.Path.{_≡_, refl, sym, ap, ap₂, _∙_}
 use native.Mathlib.Omega.{arith}
 use lib.ListN.{length, getD, replicate}
 use lib.Dec.{leb, ltb, eqb}
-use borrow.Author.Tests.{eqb-true, eqb-false, ne-eqb, le-leb, lt-leb, lt-ltb, le-ltb}
+use borrow.Author.Tests.{eqb-true, ne-eqb, le-leb, lt-leb, lt-ltb, le-ltb}
 use Rattle.sets.specs.Loops.{some}
 use Rattle.sets.specs.Sets.{has, union, named}
 use Rattle.sets.proofs.Loops.{or-false, or-true, and-no, and-yes, some-same, none-some, getD-table}
@@ -22,17 +22,17 @@ use Rattle.acting.specs.Acting.{keptCount, request, requestOf, sets, resets, as
 use Rattle.acting.specs.declared.Steps.{Steps}
 use Rattle.acting.specs.declared.Request.{Request}
 use Rattle.acting.specs.declared.Request.the-variants.{Want}
-use Rattle.run.specs.Run.{noRun, counter}
+use Rattle.run.specs.Run.{counter}
 use Rattle.run.specs.declared.run.StepCounter.{StepCounter}
 use Rattle.run.specs.declared.run.Run.{Run}
 use Rattle.passes.specs.Explaining.{noReasons}
 use Rattle.passes.specs.Choosing.{stepsOf}
 use Rattle.passes.specs.Moving.{signalsOf}
-use Rattle.cycle.specs.Cycling.{accepted, refused, reasonsIn, startCode, startSteps, settled, actedOn, countsAt, timesAt, choiceOf, marksAt, started, startOf, cycled}
+use Rattle.cycle.specs.Cycling.{accepted, refused, reasonsIn, startSteps, settled, actedOn, countsAt, timesAt, choiceOf, marksAt, startOf, cycled}
 use Rattle.cycle.specs.declared.cycling.Cycled.{Cycled}
 use Rattle.claims.specs.Counters.{counterIn}
 use Rattle.claims.specs.Marks.{start-passes}
-use Rattle.claims.specs.Runs.{Cycle, Call, answer, each-answer, after, begun}
+use Rattle.claims.specs.Runs.{Cycle, Call, answer, each-answer, after, begun, each-start}
 
 -- ---- what a call did to an action, by the chart's blocks and the run that the call returned
 
@@ -302,13 +302,9 @@ module _ (c : Chart) (passes : chartCode c ≡ 0) (a : ℕ) (l : a < c .actions)
 
   -- an accepted start, from nothing stored
   start-stores : (clock lent : ℕ) → startOf c clock lent .code ≡ 0 → Stores c a false (startOf c clock lent)
-  start-stores clock lent = go (eqb (startCode c lent) 0) refl
-    where
-      go : (b : Bool) → eqb (startCode c lent) 0 ≡ b → cond b (started c clock) (refused (startCode c lent) noRun) .code ≡ 0
-          → Stores c a false (cond b (started c clock) (refused (startCode c lent) noRun))
-      go true e h =
-          rw (sym (has-zero a)) (settled-stores c (sound c passes) a l clock (replicate 64 0) (replicate 32 0) (startSteps c) 0 0 0 0 0 0 noReasons)
-      go false e h = absurd (eqb-false _ 0 e h)
+  start-stores clock lent =
+      each-start (λ o. o .code ≡ 0 → Stores c a false o) c clock lent
+      (λ e h. rw (sym (has-zero a)) (settled-stores c (sound c passes) a l clock (replicate 64 0) (replicate 32 0) (startSteps c) 0 0 0 0 0 0 noReasons)) (λ code z h. absurd (z h))
 
   -- call k + 1 of a run of calls is given the run that call k returned
   each-call : (o : Cycled) → Settled c a (o .run) → (xs : List Call) (k : ℕ) → k < length xs → Stores c a (has (answerTo c o xs k .run .stored) a) (answerTo c o xs (suc k))
