@@ -52,13 +52,17 @@ enteredIn c r o k = targetIn c o k && (not (has (r .active) k) || leftIn c o k)
 
 -- ---- laws
 
--- no time passes where the clock is as it was
-same-clock : (hold clock : ℕ) → stepTime hold (elapsed clock clock) ≡ 0
-same-clock hold clock = go (held hold) (omega arith)
-  where
-    go : (b : Bool) → elapsed clock clock ≡ 0 → cond b 0 (elapsed clock clock) ≡ 0
-    go true e = refl
-    go false e = e
+-- no more than the elapsed time counts
+at-most : (b : Bool) (time : ℕ) → cond b 0 time ≤ time
+at-most true time = omega arith
+at-most false time = omega arith
+
+-- and none where the clock is as it was
+same-clock : (r : Run) (o : Cycled) → o .run .clock ≡ r .clock → timeIn r o ≡ 0
+same-clock r o e =
+    let time = elapsed (r .clock) (o .run .clock) in
+    let none : time ≡ 0 = rw e (omega arith) in
+    omega (arith, none, at-most (held (r .hold)) time)
 
 -- a step that is active and that the call does not leave stays so, and its counter gets the call's time
 record Counts (k : ℕ) (r : Run) (o : Cycled) : Type 0 where
@@ -68,7 +72,7 @@ record Counts (k : ℕ) (r : Run) (o : Cycled) : Type 0 where
 module _ (c : Chart) (k : ℕ) (l : k < 64) where
   -- where the clock, the active steps and the counters are as they were
   counts-same : (r : Run) (o : Cycled) → o .run .clock ≡ r .clock → o .run .active ≡ r .active → o .run .counters ≡ r .counters → has (r .active) k ≡ true → counterIn r k ≤ longest → Counts k r o
-  counts-same r o t a n h m = record { stays = rw a h; counts = rw (n, t, same-clock (r .hold) (r .clock)) (omega (arith, m)) }
+  counts-same r o t a n h m = record { stays = rw a h; counts = rw n (omega (arith, m, same-clock r o t)) }
 
   counts-cycled : (r : Run) (x : Cycle) (o : Cycled) → Stepped c r x o → o .run .clock ≡ x .clock → has (r .active) k ≡ true → leftIn c o k ≡ false → Counts k r o
   counts-cycled r x o s clock h f =
