@@ -170,11 +170,11 @@ module _ (set reset : ℕ → Bool) where
       h n (omega arith) ∙ ap (λ (b : Bool). (b || set (suc n)) && not (reset (suc n))) (since-each mark n first (λ k l. h k (omega arith))) ∙ sym (since-more (suc n))
 
 module _ (q d : ℕ) (on entered left : Bool) (count time : ℕ) where
-  -- what block b asks if its qualifier is m
+  -- what a block asks if its qualifier is m
   abbrev asks : ℕ → Request
   asks m = request m d on entered left count time
 
-  -- what a request comes to by g is f of the qualifier, if it is so of each qualifier, and of another than R, S and DS by none
+  -- what it asks comes to f of its qualifier by g, if that is so of each qualifier, and of one that is none
   by-qualifier : (g : Request → Bool) (f : ℕ → Bool)
       → g (asks N) ≡ f N → g (asks R) ≡ f R → g (asks S) ≡ f S → g (asks L) ≡ f L → g (asks D) ≡ f D → g (asks P) ≡ f P → g (asks SD) ≡ f SD → g (asks DS) ≡ f DS → g (asks SL) ≡ f SL
       → g (asks P1) ≡ f P1 → g (asks P0) ≡ f P0 → (eqb q R ≡ false → eqb q S ≡ false → eqb q DS ≡ false → g (Want false) ≡ f q) → g (asks q) ≡ f q
