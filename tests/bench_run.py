@@ -146,8 +146,13 @@ CASES += [
 
 # Document 02, request (xi): the chart that docs/ASSESSOR.md works through by hand. Steps idle, closing, braking and opening, each left by an input of its
 # own; actions 0 jog and 1 clamp, both on output 0, and 2 power. Closing clamps after 200 ms, braking jogs, opening resets the clamp, idle sets power.
-CLAMP = (step(1) + step(0) * 3 + action(0, 5) + action(0, 1) + action(1, 1) + b"".join(transition([k], [(k + 1) % 4], on=[k]) for k in range(4))
-         + block(1, 1, DS, 200) + block(2, 0, N) + block(3, 1, R) + block(0, 2, S) + END)
+def clamp(on):
+    """Transition k asks for the signals on[k]."""
+    return (step(1) + step(0) * 3 + action(0, 5) + action(0, 1) + action(1, 1) + b"".join(transition([k], [(k + 1) % 4], on=on[k]) for k in range(4))
+            + block(1, 1, DS, 200) + block(2, 0, N) + block(3, 1, R) + block(0, 2, S) + END)
+
+
+CLAMP = clamp([[0], [1], [2], [3]])
 CLAMP_TRACE = trace(1000, (1010, {0}), (1209, {}), (1210, {}), (1300, {1}), (1290, {2}), (1400, {2}), (1500, {3}))
 CASES += [
     ("the clamp", CLAMP, CLAMP_TRACE, [
@@ -166,6 +171,9 @@ CASES += [
     *((f"a clamp left at its duration{how}", chart, trace(1000, (1010, {0}), (1210, {1}), (1300, {})),
        [line(0, {0}, {2}), line(1, {1}, {2}, {0}), line(2, {2}, {0, 2}, {1}), line(3, {2}, {0, 2}, why="1131"), "passed 0 failed 0 notrun 0"])
       for how, chart in [("", CLAMP), (" in edition 2", second(CLAMP))]),
+    # so closing is left only once the call before has left the clamp active
+    ("a clamp that is waited for", clamp([[0], [1, 33], [2], [3]]), trace(1000, (1010, {0}), (1215, {1}), (1216, {1})),
+     [line(0, {0}, {2}), line(1, {1}, {2}, {0}), line(2, {1}, {1, 2}, why="1311"), line(3, {2}, {0, 1, 2}, {1}), "passed 0 failed 0 notrun 0"]),
     # step 0, which stays active, sets the action in every call, and step 2 resets it while it is active
     ("S at the start, S and R in one call", step(1) * 2 + step(0) + action(0) + transition([1], [2], on=[0]) + transition([2], [1], on=[1])
      + block(0, 0, S) + block(2, 0, R) + END, trace(0, (1, {0}), (2, {}), (3, {1})),
