@@ -41,7 +41,7 @@ use Rattle.tally.specs.Weighing.{weightIn, unbalanced, weighOf}
 use Rattle.adding.specs.Adding.{sums, unfit, addedAs, addOf, sumOf}
 use Rattle.claims.specs.Counters.{counterIn}
 use Rattle.claims.specs.Runs.{Call, cycle, after, listed, history, howMany, arrivals, departures, begun}
-use Rattle.claims.specs.Stored.{answerTo, setBy, resetBy}
+use Rattle.claims.specs.Stored.{setIn, resetIn, answerTo}
 use Rattle.claims.specs.Weights.{weighed-apart}
 
 -- a start and a cycle with 32 outputs lent
@@ -334,44 +334,31 @@ at clock inputs = cycle (record { clock = clock; inputs = inputs; lent = 32 })
 abbrev clampCalls : List Call
 clampCalls = at 1010 1 ∷ at 1209 0 ∷ at 1210 0 ∷ at 1300 2 ∷ at 1290 4 ∷ at 1400 4 ∷ at 1500 8 ∷ []
 
-abbrev clampCall : ℕ → Cycled
-clampCall n = answerTo clamp (startOf clamp 1000 32) clampCalls n
+-- what a caller sees of a call that answered o, and what it did to the clamp, action 1, and to power, action 2: number, active steps, counter of
+-- closing; set, reset, stored; set, stored
+abbrev Seen : Type 0
+Seen = ℕ × ℕ × ℕ × Bool × Bool × Bool × Bool × Bool
 
--- each call by its number: whether it set action a, whether it reset it, whether the action is stored after it
-abbrev setEach : ℕ → List Bool
-setEach a = table (setBy clamp (startOf clamp 1000 32) clampCalls a) 8
-
-abbrev resetEach : ℕ → List Bool
-resetEach a = table (resetBy clamp (startOf clamp 1000 32) clampCalls a) 8
-
-abbrev storedEach : ℕ → List Bool
-storedEach a = table (λ n. has (clampCall n .run .stored) a) 8
+abbrev seen : Cycled → Seen
+seen o = (o .code, o .run .active, counterIn (o .run) 1, setIn clamp o 1, resetIn clamp o 1, has (o .run .stored) 1, setIn clamp o 2, has (o .run .stored) 2)
 
 pub record Clamping : Type 0 where
-  pub numbers : table (λ n. clampCall n .code) 8 ≡ 0 ∷ 0 ∷ 0 ∷ 0 ∷ 0 ∷ 11 ∷ 0 ∷ 0 ∷ []
-  pub steps : table (λ n. clampCall n .run .active) 8 ≡ 1 ∷ 2 ∷ 2 ∷ 2 ∷ 4 ∷ 4 ∷ 8 ∷ 1 ∷ []
-  pub closing-for : table (λ n. counterIn (clampCall n .run) 1) 8 ≡ 0 ∷ 0 ∷ 199 ∷ 200 ∷ 0 ∷ 0 ∷ 0 ∷ 0 ∷ []
-  pub clamp-set : setEach 1 ≡ false ∷ false ∷ false ∷ true ∷ false ∷ false ∷ false ∷ false ∷ []
-  pub clamp-reset : resetEach 1 ≡ false ∷ false ∷ false ∷ false ∷ false ∷ false ∷ true ∷ false ∷ []
-  pub clamp-stored : storedEach 1 ≡ false ∷ false ∷ false ∷ true ∷ true ∷ true ∷ false ∷ false ∷ []
-  pub power-set : setEach 2 ≡ true ∷ false ∷ false ∷ false ∷ false ∷ false ∷ false ∷ true ∷ []
-  pub power-stored : storedEach 2 ≡ replicate 8 true
+  pub calls : table (λ n. seen (answerTo clamp (startOf clamp 1000 32) clampCalls n)) 8
+      ≡ (0, 1, 0, false, false, false, true, true)
+      ∷ (0, 2, 0, false, false, false, false, true)
+      ∷ (0, 2, 199, false, false, false, false, true)
+      ∷ (0, 2, 200, true, false, true, false, true)
+      ∷ (0, 4, 0, false, false, true, false, true)
+      ∷ (11, 4, 0, false, false, true, false, true)
+      ∷ (0, 8, 0, false, true, false, false, true)
+      ∷ (0, 1, 0, false, false, false, true, true)
+      ∷ []
   -- jog, earlier in the table, drives the clamp's output while it brakes
-  pub jogs : getD (outputsAfter clamp (clampCall 4) (replicate 32 (pos 9))) 0 (pos 9) ≡ pos 5
+  pub jogs : getD (outputsAfter clamp (answerTo clamp (startOf clamp 1000 32) clampCalls 4) (replicate 32 (pos 9))) 0 (pos 9) ≡ pos 5
 
 pub clamping : Clamping
 unfolding all some summed firstCode tableFrom turns collect transitionCode stepsCode actionsCode transitionsCode blocksCode casesCode someInitial timedFor timedTwice heldCode reason chosen reasonsOf marksOf initialSet asked acted first outputsOf answerTo
-clamping = record {
-  numbers = refl;
-  steps = refl;
-  closing-for = refl;
-  clamp-set = refl;
-  clamp-reset = refl;
-  clamp-stored = refl;
-  power-set = refl;
-  power-stored = refl;
-  jogs = refl;
-}
+clamping = record { calls = refl; jogs = refl }
 
 -- idle (initial), pressurising, venting, recording, recorded: docs/ASSESSOR.md weighs this chart by hand
 abbrev brake : Chart
