@@ -1203,7 +1203,8 @@ fn storing_chart(rng: &Rng) -> Chart {
 fn stored_case(rng: &Rng, _: u64) -> Case {
     let chart = storing_chart(rng);
     let (held, due) = (Held::of(&file_of(&chart)), due_times(&chart));
-    let file = if rng.chance(97) { file_of(&chart) } else { shortened(faulty_file(rng, chart.clone())) };
+    let right = rng.chance(97);
+    let file = if right { file_of(&chart) } else { shortened(faulty_file(rng, chart.clone())) };
     let mut last = rng.pick(&[0, 1000, rng.between(0, TURN - 1), TURN - rng.between(1, 70_000)]);
     let (mut bytes, mut entries, mut calls) = (framed([&file].into_iter(), 2), vec![Entry::Start], vec![last]);
     let many = rng.between(0, 30);
@@ -1227,7 +1228,11 @@ fn stored_case(rng: &Rng, _: u64) -> Case {
         }
         entries.push(entry);
     }
-    Case { request: bytes, count: Box::new(move |reached, line| count_stored_run(reached, &held, &entries, line)) }
+    let count = move |reached: &mut Reached, line: &str| match right {
+        true => count_stored_run(reached, &held, &entries, line),
+        false => reached.note("run of a refused chart", !line.starts_with("0 ")),
+    };
+    Case { request: bytes, count: Box::new(count) }
 }
 
 fn put_entry(bytes: &mut Vec<u8>, entry: Entry, clocks: &[u64], inputs: impl Fn() -> u64) {
@@ -1330,6 +1335,7 @@ fn needed() -> Vec<String> {
     names.extend(needed_of_indexes());
     names.extend(needed_of_adding());
     names.extend(STORED.iter().flat_map(|name| [name.to_string(), format!("{name}{IN_2}")]));
+    names.push("run of a refused chart".to_string());
     names
 }
 
@@ -2259,12 +2265,10 @@ fn stored_over(entry: Entry, before: u64, call: &Seen) -> Vec<String> {
     named.iter().filter(|(so, _)| *so).map(|(_, name)| name.to_string()).collect()
 }
 
-// A run of calls; one of a file that is none says nothing.
+// A run of calls of a chart that was read.
 fn count_stored_run(reached: &mut Reached, held: &Held, entries: &[Entry], line: &str) {
     let (mut before, mut lost, mut under) = (0, 0, false);
-    let calls = seen(entries, line);
-    reached.note("run of calls refused", calls[0].code != 0);
-    for (entry, call) in entries.iter().zip(&calls).take_while(|_| calls[0].code == 0) {
+    for (entry, call) in entries.iter().zip(&seen(entries, line)) {
         let names = match entry {
             Entry::Start | Entry::Cycle if call.code == 0 => {
                 let mut names = deeds(held, *entry == Entry::Start, under, before, call);

@@ -12,8 +12,9 @@
 
    A file stands behind its length in two bytes, but for list_records, whose input is the file. A start is its clock in four bytes and the number of
    calls that follow in two; each of them has a byte in front, 0 for a cycle, its clock and its inputs in four each, 1 for a hold and 2 for a
-   release, which have nothing more, and in stored_runs 3 for a shift, how many cycles in two, their clocks and then their inputs in four each. There are as many cases as the input has; it may end within one, which then is left out. Numbers are
-   little-endian, as on the machines that this runs on. */
+   release, which have nothing more, and in stored_runs 3 for a shift, how many cycles in two, their clocks and then their inputs in four each. There
+   are as many cases as the input has; it may end within one, which then is left out. Numbers are little-endian, as on the machines that this runs
+   on. */
 #include <stdbool.h>
 #include <stddef.h>
 #include <stdint.h>
