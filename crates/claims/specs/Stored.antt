@@ -92,7 +92,7 @@ touched set reset k = set k || reset k
 
 -- in other words: the last call that set or reset it did not reset it, and there was one
 abbrev pub lastSet : (ℕ → Bool) → (ℕ → Bool) → ℕ → Bool
-lastSet set reset n = some (λ k. touched set reset k && not (some (λ j. ltb k j && touched set reset j) n) && not (reset k)) n
+lastSet set reset n = some (λ k. touched set reset k && not (reset k) && not (some (λ j. ltb k j && touched set reset j) n)) n
 
 -- ---- laws
 
@@ -103,57 +103,57 @@ from-on k j l = le-leb k j l
 not-from-on : (k j : ℕ) → j < k → fromOn k j ≡ false
 not-from-on k j l = lt-leb k j l
 
+-- some of n calls has w, and none of those from it on, by `on`, has q
+module _ (w q : ℕ → Bool) (on : ℕ → ℕ → Bool) where
+  abbrev free : ℕ → Bool
+  free n = some (λ k. w k && not (some (λ j. on k j && q j) n)) n
+
+  -- a call more, which is one of those from each before it on, while none of these is from it on
+  free-more : (n : ℕ) → ((k : ℕ) → k < n → on k n ≡ true) → ((j : ℕ) → j < n → on n j ≡ false) → free (suc n) ≡ (free n && not (q n) || w n && not (on n n && q n))
+  unfolding some
+  free-more n far near =
+      ap₂ _||_ (some-same _ (kept (q n)) n (λ k l. ap (λ (b : Bool). w k && not (some (later k) n || b && q n)) (far k l)) ∙ go (q n))
+      (ap (λ (b : Bool). w n && not (b || on n n && q n)) (none-some (later n) n (λ j l. ap (λ (b : Bool). b && q j) (near j l))))
+    where
+      later : ℕ → ℕ → Bool
+      later k j = on k j && q j
+
+      -- call k is such a one, by whether the new one has q
+      kept : Bool → ℕ → Bool
+      kept b k = w k && not (some (later k) n || b)
+
+      go : (b : Bool) → some (kept b) n ≡ (free n && not b)
+      go true = none-some (kept true) n (λ k l. ap (λ (b : Bool). w k && not b) (or-true (some (later k) n)) ∙ and-no (w k)) ∙ sym (and-no (free n))
+      go false = some-same (kept false) _ n (λ k l. ap (λ (b : Bool). w k && not b) (or-false (some (later k) n))) ∙ and-yes (free n)
+
 module _ (set reset : ℕ → Bool) where
   -- a call more: it is so after it if it was before or the call set it, and the call did not reset it
   since-more : (n : ℕ) → setSince set reset (suc n) ≡ ((setSince set reset n || set n) && not (reset n))
-  unfolding some
   since-more n =
-      ap₂ _||_ (some-same _ (kept (reset n)) n (λ k l. ap (λ (b : Bool). set k && not (some (later k) n || b && reset n)) (from-on k n (omega arith))))
-      (ap₂ (λ (x b : Bool). set n && not (x || b && reset n)) (none-some (later n) n (λ j l. ap (λ (b : Bool). b && reset j) (not-from-on n j l))) (from-on n n (omega arith)))
-      ∙ go (reset n)
+      free-more set reset fromOn n (λ k l. from-on k n (omega arith)) (λ j l. not-from-on n j l)
+      ∙ ap (λ (b : Bool). setSince set reset n && not (reset n) || set n && not (b && reset n)) (from-on n n (omega arith))
+      ∙ go (setSince set reset n) (set n) (reset n)
     where
-      later : ℕ → ℕ → Bool
-      later k j = fromOn k j && reset j
-
-      -- call k set it and none reset it, by whether the new one did
-      kept : Bool → ℕ → Bool
-      kept b k = set k && not (some (later k) n || b)
-
-      go : (b : Bool) → some (kept b) n || set n && not b ≡ ((setSince set reset n || set n) && not b)
-      go true =
-          ap₂ _||_ (none-some (kept true) n (λ k l. ap (λ (b : Bool). set k && not b) (or-true (some (later k) n)) ∙ and-no (set k))) (and-no (set n))
-          ∙ sym (and-no (setSince set reset n || set n))
-      go false =
-          ap₂ _||_ (some-same (kept false) _ n (λ k l. ap (λ (b : Bool). set k && not b) (or-false (some (later k) n)))) (sym (and-yes (set n)))
-          ∙ and-yes (setSince set reset n || set n)
+      go : (a s r : Bool) → (a && not r || s && not r) ≡ ((a || s) && not r)
+      go true s true = and-no s
+      go true s false = refl
+      go false s r = refl
 
   last-more : (n : ℕ) → lastSet set reset (suc n) ≡ ((lastSet set reset n || set n) && not (reset n))
-  unfolding some
   last-more n =
-      ap₂ _||_ (some-same _ (last (touch n)) n (λ k l. ap (λ (b : Bool). touch k && not (some (later k) n || b && touch n) && not (reset k)) (lt-ltb k n l)))
-      (ap₂ (λ (x b : Bool). touch n && not (x || b && touch n) && not (reset n)) (none-some (later n) n (λ j l. ap (λ (b : Bool). b && touch j) (le-ltb n j (omega arith)))) (le-ltb n n (omega arith)))
-      ∙ go (set n) (reset n)
+      free-more (λ k. touched set reset k && not (reset k)) (touched set reset) ltb n (λ k l. lt-ltb k n l) (λ j l. le-ltb n j (omega arith))
+      ∙ ap (λ (b : Bool). lastSet set reset n && not (touched set reset n) || touched set reset n && not (reset n) && not (b && touched set reset n)) (le-ltb n n (omega arith))
+      ∙ go (lastSet set reset n) (set n) (reset n)
     where
-      touch : ℕ → Bool
-      touch = touched set reset
-
-      later : ℕ → ℕ → Bool
-      later k j = ltb k j && touch j
-
-      -- call k is the last that set or reset it, by whether the new one did, and did not reset it
-      last : Bool → ℕ → Bool
-      last t k = touch k && not (some (later k) n || t) && not (reset k)
-
-      not-last : some (last true) n ≡ false
-      not-last = none-some (last true) n (λ k l. ap (λ (b : Bool). touch k && not b && not (reset k)) (or-true (some (later k) n)) ∙ ap (λ (b : Bool). b && not (reset k)) (and-no (touch k)))
-
-      go : (s r : Bool) → some (last (s || r)) n || (s || r) && true && not r ≡ ((lastSet set reset n || s) && not r)
-      go true true = or-false (some (last true) n) ∙ not-last ∙ sym (and-no (lastSet set reset n || true))
-      go true false = or-true (some (last true) n) ∙ sym (or-true (lastSet set reset n)) ∙ and-yes (lastSet set reset n || true)
-      go false true = or-false (some (last true) n) ∙ not-last ∙ sym (and-no (lastSet set reset n || false))
-      go false false =
-          ap (λ (b : Bool). b || false) (some-same (last false) _ n (λ k l. ap (λ (b : Bool). touch k && not b && not (reset k)) (or-false (some (later k) n))))
-          ∙ and-yes (lastSet set reset n || false)
+      go : (a s r : Bool) → (a && not (s || r) || (s || r) && not r && true) ≡ ((a || s) && not r)
+      go true true true = refl
+      go true true false = refl
+      go true false true = refl
+      go true false false = refl
+      go false true true = refl
+      go false true false = refl
+      go false false true = refl
+      go false false false = refl
 
   -- so both say the same
   last-since : (n : ℕ) → lastSet set reset n ≡ setSince set reset n
