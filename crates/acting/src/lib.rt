@@ -1,9 +1,11 @@
 // Paragraphs 4 and 5 of "One cycle": what one block asks of its action, and what the actions become.
+#![tactic(auto)]
+
 ghost use Rattle.std.specs.Prelude.{◌≡◌, ◌%◌, get_or};
 ghost use Rattle.acting.specs.Acting.{kept_count, putting, request_at, acted};
 
 // The steps that blocks go by: active now, entered, left, and those whose counter runs on.
-#[derive(Drop)]
+#[derive(Clone, Copy)]
 pub struct Steps {
     pub active: u64,
     pub entered: u64,
@@ -12,7 +14,7 @@ pub struct Steps {
 }
 
 // What a block asks for its action, if its condition holds: a latch also says whether the action's timer makes it active.
-#[derive(Drop)]
+#[derive(Clone, Copy)]
 pub enum Request {
     Reset(bool),
     Set(bool),
@@ -21,7 +23,7 @@ pub enum Request {
 }
 
 // The actions that blocks reset, set, latch and make active, and those that a latch makes active.
-#[derive(Drop)]
+#[derive(Clone, Copy)]
 pub struct Asked {
     pub reset: u64,
     pub set: u64,
@@ -30,7 +32,7 @@ pub struct Asked {
     pub ripe: u64,
 }
 
-#[derive(Drop)]
+#[derive(Clone, Copy)]
 pub struct Acted {
     pub stored: u64,
     pub latched: u64,

@@ -8,7 +8,7 @@ use chart::Chart;
 use tally::codes::WRONG_WEIGHTS;
 
 // The number, and for 21 the step.
-#[derive(Drop)]
+#[derive(Clone, Copy)]
 pub struct Added {
     pub code: u8,
     pub step: usize,

@@ -1,4 +1,6 @@
 // Adding weighings (document 02, request x): the sum of two, step by step, in a third lent list.
+#![tactic(auto)]
+
 pub mod adding;
 pub mod codes;
 

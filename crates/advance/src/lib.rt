@@ -1,4 +1,6 @@
 // The lent run's cycle for programs in other languages.
+#![tactic(auto)]
+
 ghost use Rattle.std.specs.Prelude.{◌≡◌};
 ghost use Rattle.chart.specs.Chart.{chart_of};
 ghost use Rattle.run.specs.Apart.{words_at, run_of};

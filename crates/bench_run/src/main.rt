@@ -1,4 +1,6 @@
 // bench-run: prints the run of the chart in chart.bin over the trace on standard input (document 01, "The printed run"; 02, request vi).
+#![tactic(auto)]
+
 use chart::Chart;
 use libc::{STDIN_FILENO, STDOUT_FILENO};
 use report::wording::LINE;

@@ -1,4 +1,6 @@
 // A single call: start, and one cycle (document 01, "One cycle").
+#![tactic(auto)]
+
 pub mod cycling;
 pub mod starting;
 

@@ -10,7 +10,7 @@ use cycle::Cycled;
 use cycle::codes::FEW_OUTPUTS;
 use run::Words;
 
-#[derive(Drop)]
+#[derive(Clone, Copy)]
 pub struct Started {
     pub code: u8,
     pub words: Words,

@@ -1,4 +1,6 @@
 // Paragraph 2 of "One cycle": whether a transition is taken, after those that are, and if not, why (document 02, request vi).
+#![tactic(auto)]
+
 pub mod reasons;
 
 ghost use Rattle.std.specs.Prelude.{◌≡◌, ◌&&◌, cond, eqb};
@@ -8,7 +10,7 @@ ghost use Rattle.choice.specs.Choice.{ripe, reason, tested, takes, choosing, rea
 use reasons::{CLAIMED, HOLD, NOT_ACTIVE, OCCUPIED, SIGNAL, USED, WAIT};
 
 // The transitions taken so far, their sources and their targets.
-#[derive(Drop)]
+#[derive(Clone, Copy)]
 pub struct Choice {
     pub taken: u64,
     pub left: u64,

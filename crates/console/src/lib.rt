@@ -1,4 +1,6 @@
 // What the programs share: the chart's file is read, and what they print is gathered and written. The system's calls have contracts about lengths alone.
+#![tactic(auto)]
+
 ghost use Rattle.std.specs.Prelude.{◌≤◌, length};
 
 use libc::STDOUT_FILENO;

@@ -2,7 +2,7 @@
 use run::Words;
 
 // What stopped the cycles, how many were accepted, the transitions that the last one took, and the run's words there.
-#[derive(Drop)]
+#[derive(Clone, Copy)]
 pub struct Went {
     pub code: u8,
     pub accepted: usize,

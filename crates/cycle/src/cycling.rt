@@ -7,7 +7,7 @@ use crate::codes::FEW_OUTPUTS;
 use run::{Run, Words, belongs};
 
 // The number, the transitions taken, why each of 64 is not (document 02, request vi), and the run.
-#[derive(Drop)]
+#[derive(Clone, Copy)]
 pub struct Cycled {
     pub code: u8,
     pub taken: u64,

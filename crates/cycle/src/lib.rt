@@ -1,4 +1,6 @@
 // The run of a chart: what start and one cycle are (document 01, "One cycle"), and the tests before a cycle.
+#![tactic(auto)]
+
 pub mod calling;
 pub mod codes;
 pub mod cycling;

@@ -10,7 +10,7 @@ ghost use Rattle.desk.specs.Lent.{told_of, Tells, read_as, written_as};
 use reader::Next;
 
 // The record step's answer, spelled out: a record's kind, place and length; zeros for the end; a refusal's number and place.
-#[derive(Drop)]
+#[derive(Clone, Copy)]
 pub struct Told {
     pub code: u8,
     pub kind: u16,

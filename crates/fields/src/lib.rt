@@ -1,5 +1,7 @@
 // The numbers of refusal of a record's fields, kind by kind: 5, and of transitions 5, 6, 7 in this order. The reader and the held test both go by
 // these, and so each is said once.
+#![tactic(auto)]
+
 ghost use Rattle.std.specs.Prelude.{◌≡◌, ◌+◌, eqb};
 ghost use Rattle.sets.specs.Loops.{or_else};
 ghost use Rattle.sets.specs.Sets.{beyond};

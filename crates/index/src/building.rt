@@ -6,7 +6,7 @@ ghost use Rattle.index.specs.Building.{entered_in, index_of, indexed_as, built_a
 use chart::Chart;
 
 // The number, and word k for step k.
-#[derive(Drop)]
+#[derive(Clone, Copy)]
 pub struct Indexed {
     pub code: u8,
     pub leaving: [u64; 64],

@@ -1,4 +1,6 @@
 // A record's body as numbers, and judged.
+#![tactic(auto)]
+
 ghost use Rattle.std.specs.Prelude.{◌≡◌};
 ghost use Rattle.judging.specs.Judging.{limited, body_code};
 ghost use Rattle.judging.specs.declared.Body.TheVariants.{Step, Action, Transition, Block, Case, Edition};
@@ -6,7 +8,7 @@ ghost use Rattle.judging.specs.declared.Body.TheVariants.{Step, Action, Transiti
 use chart::codes::TOO_MANY;
 use fields::codes::BAD_FIELD;
 
-#[derive(Drop)]
+#[derive(Clone, Copy)]
 pub enum Body {
     // initial
     Step(u8),

@@ -7,7 +7,7 @@ ghost use Rattle.key.specs.Turning.{mark_of, turned_as, turn_of};
 use chart::Chart;
 use run::{Run, Words, belongs};
 
-#[derive(Drop)]
+#[derive(Clone, Copy)]
 pub struct Turned {
     pub code: u8,
     pub run: Run,

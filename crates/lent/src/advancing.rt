@@ -8,7 +8,7 @@ use cycle::Cycled;
 use run::Run;
 
 // A cycle's answer without its run: the number, the transitions taken, and why each of 64 is not.
-#[derive(Drop)]
+#[derive(Clone, Copy)]
 pub struct Advanced {
     pub code: u8,
     pub taken: u64,

@@ -1,4 +1,6 @@
 // A run that is lent to be advanced (document 01: "The bench holds one run and lends it to be advanced").
+#![tactic(auto)]
+
 pub mod advancing;
 
 pub use advancing::{Advanced, advance, lent_cycle};

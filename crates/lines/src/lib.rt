@@ -1,4 +1,6 @@
 // The parts of printed lines, byte for byte, put at a place of a lent buffer; what lies behind a part stays. Each answers the place behind it.
+#![tactic(auto)]
+
 ghost use Rattle.std.specs.Prelude.{◌+◌, ◌%◌, ◌≤◌, ◌++◌, ◌≡◌, leb, length};
 ghost use Rattle.sets.specs.Bytes.{Put};
 ghost use Rattle.lines.specs.Lines.{text, digit, hex, decimal, named_line, chart_line, Puts};

@@ -1,4 +1,6 @@
 // The page that an assessor checks by hand (docs/DECISIONS.md, "The page of a weighing"), a line at a time.
+#![tactic(auto)]
+
 pub mod page;
 pub mod sides;
 

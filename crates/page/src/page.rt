@@ -14,7 +14,7 @@ pub const LINE: usize = 512;
 pub const LINES: usize = 4161;
 
 // What the program heard: the number of the chart's reading, how long the text of the weights is, its first faulty line, and what the weighing answered.
-#[derive(Drop)]
+#[derive(Clone, Copy)]
 pub struct Heard {
     pub code: u8,
     pub length: usize,

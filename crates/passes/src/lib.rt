@@ -1,4 +1,6 @@
 // The passes of one cycle over a chart's tables, and what they go by: each by itself, for whatever it is given (document 01, "One cycle").
+#![tactic(auto)]
+
 pub mod asking;
 pub mod choosing;
 pub mod explaining;

@@ -3,7 +3,7 @@ ghost use Rattle.std.specs.Prelude.{◌≡◌, ◌%◌, min};
 ghost use Rattle.passes.specs.Rests.{rests};
 ghost use Rattle.passes.specs.Moving.{as_expected, marks_of, signals_of};
 
-#[derive(Drop)]
+#[derive(Clone, Copy)]
 pub struct Marks {
     pub good: u64,
     pub bad: u64,

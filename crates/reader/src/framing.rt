@@ -5,7 +5,7 @@ ghost use Rattle.reader.specs.Framing.{body_length, head_number, Answers};
 use crate::codes::{BAD_KIND, BAD_LENGTH, CUT};
 use crate::numbers;
 
-#[derive(Drop)]
+#[derive(Clone, Copy)]
 pub enum Next {
     Record {
         kind: u16,

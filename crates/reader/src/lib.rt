@@ -1,4 +1,6 @@
 // The chart reader: bytes to records to a chart (document 01, "The chart and its bytes").
+#![tactic(auto)]
+
 pub mod bodies;
 pub mod codes;
 pub mod framing;

@@ -9,7 +9,7 @@ use chart::Chart;
 use judging::Body;
 
 // What a reading answers beside the tables: its number, its place, the counts and the edition.
-#[derive(Drop)]
+#[derive(Clone, Copy)]
 pub struct Read {
     pub code: u8,
     pub place: usize,
@@ -21,7 +21,7 @@ pub struct Read {
     pub edition: u8,
 }
 
-#[derive(Drop)]
+#[derive(Clone, Copy)]
 pub struct Reading {
     pub code: u8,
     pub place: usize,

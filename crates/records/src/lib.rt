@@ -1,10 +1,12 @@
 // The reader by itself, asked for the next record (document 01, "it remembers the lent bytes and the place, with the kind before").
+#![tactic(auto)]
+
 ghost use Rattle.std.specs.Prelude.{◌≡◌};
 ghost use Rattle.records.specs.Asking.{opening, Finds, Asks};
 
 use reader::Next;
 
-#[derive(Drop)]
+#[derive(Clone, Copy)]
 pub struct Records<'a> {
     pub bytes: &'a [u8],
     pub at: usize,
@@ -12,7 +14,7 @@ pub struct Records<'a> {
 }
 
 // An answer, with the place and the kind before for the next question.
-#[derive(Drop)]
+#[derive(Clone, Copy)]
 pub struct Found {
     pub answer: Next,
     pub at: usize,

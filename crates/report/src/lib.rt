@@ -1,4 +1,6 @@
 // The printed run, a call's lines at a time (document 01, "The printed run"; document 02, request vi).
+#![tactic(auto)]
+
 pub mod printing;
 pub mod wording;
 

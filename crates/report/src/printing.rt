@@ -13,7 +13,7 @@ use tally::Tallied;
 use trace::Call;
 
 // The place of the next record and the run that it is given; done once the last line is out.
-#[derive(Drop)]
+#[derive(Clone, Copy)]
 pub struct Standing {
     pub done: bool,
     pub at: usize,
@@ -21,7 +21,7 @@ pub struct Standing {
 }
 
 // How many bytes were printed, and where the printing then stands. A length of 0: nothing was printed.
-#[derive(Drop)]
+#[derive(Clone, Copy)]
 pub struct Printed {
     pub length: usize,
     pub standing: Standing,

@@ -5,7 +5,7 @@ ghost use Rattle.run.specs.Apart.{words_at, words_of, counts_of, times_of, count
 
 use crate::run::{ActionTimer, Run, StepCounter};
 
-#[derive(Drop)]
+#[derive(Clone, Copy)]
 pub struct Words {
     pub clock: u32,
     pub active: u64,

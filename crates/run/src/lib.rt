@@ -1,4 +1,6 @@
 // The run as it is held, and the test of a held run against its chart (document 01, "Numbers of refusal").
+#![tactic(auto)]
+
 pub mod apart;
 pub mod belongs;
 pub mod codes;

@@ -3,13 +3,13 @@
 ghost use Rattle.std.specs.Prelude.{◌≡◌};
 ghost use Rattle.run.specs.Run.{no_run, longer, longer_counter, longer_timer};
 
-#[derive(Drop)]
+#[derive(Clone, Copy)]
 pub struct StepCounter(pub u32);
 
-#[derive(Drop)]
+#[derive(Clone, Copy)]
 pub struct ActionTimer(pub u32);
 
-#[derive(Drop)]
+#[derive(Clone, Copy)]
 pub struct Run {
     pub clock: u32,
     pub active: u64,

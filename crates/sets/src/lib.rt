@@ -1,4 +1,6 @@
 // Sets of numbers below 64 as one word: bit k is number k (document 01, "The chart and its bytes").
+#![tactic(auto)]
+
 ghost use Rattle.std.specs.Prelude.{◌%◌, ◌≡◌, cond};
 ghost use Rattle.sets.specs.Sets.{has, Within, Apart, Below, union, inter, minus, insert, beyond, first, remove, size};
 

@@ -1,4 +1,6 @@
 // A whole shift of cycles in one call (document 02, request iii).
+#![tactic(auto)]
+
 pub mod codes;
 pub mod shifting;
 

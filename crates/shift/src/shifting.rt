@@ -6,7 +6,7 @@ use crate::codes::UNEVEN_LISTS;
 use chart::Chart;
 use run::Run;
 
-#[derive(Drop)]
+#[derive(Clone, Copy)]
 pub struct Shifted {
     pub code: u8,
     pub accepted: usize,

@@ -16,7 +16,7 @@ use acting::{Acted, Steps};
 use choice::Choice;
 use run::Words;
 
-#[derive(Drop)]
+#[derive(Clone, Copy)]
 pub struct Stepped {
     pub taken: u64,
     pub words: Words,

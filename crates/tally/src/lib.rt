@@ -1,4 +1,6 @@
 // What the assessor signs: the tally and the weighing (document 01, "Tally").
+#![tactic(auto)]
+
 pub mod codes;
 pub mod tallying;
 pub mod weighing;

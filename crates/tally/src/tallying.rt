@@ -8,7 +8,7 @@ use chart::Chart;
 use run::codes::OTHER_RUN;
 use run::{Run, Words, belongs};
 
-#[derive(Drop)]
+#[derive(Clone, Copy)]
 pub struct Tallied {
     pub code: u8,
     pub passed: usize,

@@ -6,7 +6,7 @@ ghost use Rattle.tally.specs.Weighing.{weight_in, unbalanced, refused, weigh_of}
 use crate::codes::{UNBALANCED, WRONG_WEIGHTS};
 use chart::Chart;
 
-#[derive(Drop)]
+#[derive(Clone, Copy)]
 pub struct Weighed {
     pub code: u8,
     pub transition: usize,

@@ -1,4 +1,6 @@
 // Charts in the textual form (document 02, request iv); the grammar is docs/GRAMMAR.md's.
+#![tactic(auto)]
+
 pub mod closing;
 pub mod codes;
 pub mod pen;

@@ -3,7 +3,7 @@ ghost use Rattle.std.specs.Prelude.{◌≡◌, ◌+◌, ◌≤◌, ◌%◌, max,
 ghost use Rattle.text.specs.Scan.{stray_at};
 
 // Whether a step is not named by its number, and the place of the first such name.
-#[derive(Drop)]
+#[derive(Clone, Copy)]
 pub struct Stray {
     pub found: bool,
     pub place: usize,

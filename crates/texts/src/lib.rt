@@ -1,4 +1,6 @@
 // A text read into a lent chart, for programs in other languages (document 02, request iv).
+#![tactic(auto)]
+
 ghost use Rattle.grammar.specs.Answer.{Answers};
 ghost use Rattle.texts.specs.Lent.{read_as};
 

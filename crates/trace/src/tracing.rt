@@ -4,7 +4,7 @@ ghost use Rattle.trace.specs.Tracing.{kind_due, body_due, head_fits, call_at, nu
 
 use reader::numbers;
 
-#[derive(Drop)]
+#[derive(Clone, Copy)]
 pub enum Call {
     Start { clock: u32 },
     Cycle { clock: u32, inputs: u32 },

@@ -1,4 +1,6 @@
 // weigh_page: prints the page of a weighing, of the chart in chart.bin and of the weights on standard input (docs/DECISIONS.md, "The page of a weighing").
+#![tactic(auto)]
+
 use libc::{STDIN_FILENO, STDOUT_FILENO};
 use page::{Heard, LINE, LINES};
 

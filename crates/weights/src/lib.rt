@@ -1,4 +1,6 @@
 // Weights as text, one a line (docs/DECISIONS.md, "The page of a weighing").
+#![tactic(auto)]
+
 pub mod listing;
 pub mod words;
 

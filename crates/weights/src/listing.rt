@@ -8,7 +8,7 @@ use crate::words;
 use crate::words::{Class, Said};
 
 // The number of the first faulty line, from 1 on, 0 if there is none; and how many weights were kept.
-#[derive(Drop)]
+#[derive(Clone, Copy)]
 pub struct Listed {
     pub fault: usize,
     pub count: usize,

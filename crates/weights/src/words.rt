@@ -3,7 +3,7 @@ ghost use Rattle.std.specs.Prelude.{◌+◌, ◌-◌, ◌*◌, ◌≤◌, min, �
 ghost use Rattle.weights.specs.Words.{is_of, leading, value, word_says, says_of};
 
 // The kinds of bytes: those before a line end, those before a comment, blanks, and digits.
-#[derive(Drop)]
+#[derive(Clone, Copy)]
 pub enum Class {
     Line,
     Text,
@@ -12,7 +12,7 @@ pub enum Class {
 }
 
 // What a line says: no weight, the next one, or nothing that can be read.
-#[derive(Drop)]
+#[derive(Clone, Copy)]
 pub enum Said {
     Nothing,
     Weight { weight: u16 },

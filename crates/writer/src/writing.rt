@@ -10,7 +10,7 @@ use crate::codes::TOO_FEW_BYTES;
 use crate::records;
 use chart::Chart;
 
-#[derive(Drop)]
+#[derive(Clone, Copy)]
 pub struct Writing {
     pub code: u8,
     pub length: usize,
