@@ -36,14 +36,14 @@ loop-at-smaller c = omega arith
 
 pub loop-at-preserved : goal.loop-at-preserved
 loop-at-preserved c =
-    let l = c.loop-at in
-    (
-        elim c.if-some_timed.branch [
-        then-some_timed w ↦
+    let l = c.loop-at in (
+      elim c.if-some_timed.branch [
+        | then-some_timed w ↦
             let end : l.at + w.at_most-left.result ≡ min (l.at + 16) c.args.n = omega (arith, w.at_most-left.ensures) in
             rw (w.seen-is, w.twice-is, ← end) w.see_timed-twice.ensures
-        | else-some_timed w ↦ rw (w.seen-is, w.twice-is) (pass-sixteen l.at c.args.n l.invariant.0 c.some_timed.ensures w.if-some_timed.false) ],
-        omega arith,
+        | else-some_timed w ↦ rw (w.seen-is, w.twice-is) (pass-sixteen l.at c.args.n l.invariant.0 c.some_timed.ensures w.if-some_timed.false)
+      ],
+      omega arith,
     )
 
 pub returns : goal.returns

@@ -1,0 +1,13 @@
+use Prim.Native.Nat.{◌≤◌, ◌-◌}
+use mathlib.Core.Path.{refl}
+use native.Mathlib.Omega.{arith}
+use lib.ListN.{get_or}
+use Rattle.sets.proofs.Loops.{Written, written_start, written-turn, written-end}
+use Rattle.run.specs.Run.{timer}
+use Rattle.run.proofs.apart.timers_of.Given as goal
+
+abbrev pub invariant-loop-k : goal.invariant-loop-k
+invariant-loop-k l = Written (timer 0) (λ j. timer (get_or l.held j 0)) 32 l.k l.out × (l.k ≤ 32)
+
+abbrev pub decreases-loop-k : goal.decreases-loop-k
+decreases-loop-k l = 32 - l.k
