@@ -168,6 +168,7 @@ produces-ends p = ends_by p.tree p.is
 pub starts-before : (l k : List Head) {m : Mark} {w : List Mark} → Starts l m w → Starts (l ++ k) m w
 starts-before (h ∷ l) k (here s) = here s
 starts-before (h ∷ l) k (there s) = there (starts-before l k s)
+starts-before [] k {m = m} {w = w} x' = elim x' [ ]
 
 pub starts-behind : (l k : List Head) {m : Mark} {w : List Mark} → Starts k m w → Starts (l ++ k) m w
 starts-behind [] k s = s
@@ -189,6 +190,7 @@ starts-follow g (h ∷ l) (here s) q = here (record {
   rest = seq-produces h.rest g s.rest q;
 })
 starts-follow g (h ∷ l) (there s) q = there (starts-follow g l s q)
+starts-follow g [] {m = m} {u = u} {v = v} x'' q = elim x'' [ ]
 
 record Followed (g : Form) (l : List Head) (m : Mark) (w : List Mark) : Type 0 where
   first : List Mark
@@ -211,6 +213,7 @@ follow-parts g (h ∷ l) {m} (here s) =
 follow-parts g (h ∷ l) (there s) =
     let c : Followed g l _ _ = follow-parts g l s in
     record { first = c.first; second = c.second; whole = c.whole; of-first = there c.of-first; of-second = c.of-second }
+follow-parts g [] {m = m} {w = w} x' = elim x' [ ]
 
 starts-as : (l : List Head) {m n : Mark} {u w : List Mark} → m ≡ n → u ≡ w → Starts l m u → Starts l n w
 starts-as l {m} {n} {u} {w} e f s = subst (λ (x : Mark). Starts l x w) e (subst (λ (x : List Mark). Starts l m x) f s)
@@ -221,6 +224,7 @@ cond-starts false l e s = let z : ◌≡◌ {A = ℕ} 0 1 = cc in absurd (omega 
 
 cond_cases : (b : Bool) (l : List Head) {m : Mark} {w : List Mark} → Starts (cond b l []) m w → (b ≡ true) × Starts l m w
 cond_cases true l s = (refl, s)
+cond_cases false l {m = m} {w = w} s = elim s [ ]
 
 -- a tree and then g: what the tree's form starts with, or what comes next does
 split-start : {f : Form} (g : Form) (m : Mark) (w : List Mark) (t : Tree f) → ((u : List Mark) → marks t ≡ m ∷ u → Starts (heads f) m u)
@@ -295,3 +299,5 @@ starts-produces (or f g) m w s = go (starts-produces f m w) (starts-produces g m
 starts-produces (many f) m w s =
     let c : Followed (many f) (heads f) m w = follow-parts (many f) (heads f) s in
     same (ap (λ (x : List Mark). m ∷ x) c.whole) (many_more (starts-produces f m c.first c.of-first) c.of-second)
+starts-produces empty m w s = elim s [ ]
+starts-produces (one a z r) m w (there x5) = elim x5 [ ]

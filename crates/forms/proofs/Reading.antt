@@ -1,16 +1,16 @@
 -- A table that passes the test reads what its first state's forms produce: what it answers is right, of every text.
-use mathlib.Core.Path.{◌≡◌, refl, sym, ap, ap₂, ◌∙◌, subst}
+use mathlib.Core.Path.{◌≡◌, refl, sym, ap, ◌∙◌, subst}
 use mathlib.Core.Bool.{Bool, true, false, cond, ◌&&◌, ◌||◌}
 use mathlib.Core.List.{List, [], ◌∷◌, ◌++◌}
 use mathlib.Core.Logic.{◌⊎◌, inl, inr}
-use Prim.Native.Nat.{ℕ, zero, suc, ◌+◌, ◌-◌, ◌≤◌, ◌<◌}
+use Prim.Native.Nat.{ℕ, zero, suc, ◌≤◌, ◌<◌}
 use native.Mathlib.Omega.{arith}
 use lib.Dec.{eqb, leb}
 use lib.ListN.{get_or, length, take}
 use borrow.Author.Tests.{eqb-true, leb-true}
-use Rattle.forms.specs.Form.{Mark, Form, empty, one, then, or, many, Tree, byte, marks, bytes, Sentence, Opens, Stops}
-use Rattle.forms.specs.Table.{Row, State, Table, stuck, at, Move, halt, go, is_from, move, Head, heads, heads_of, ends, each, any, Outcome, read, stopped, push, turn, final, run, same, live, kept, range, leads, comes, backs, head_fits, row_fits, state_fits, fits}
-use Rattle.forms.proofs.Heads.{Produces, Fits, Start, Starts, Begins, here, there, starts-before, starts-behind, starts-cases, produces-starts, starts-produces, ends-produces, produces-ends, then-produces, or_left, many-none, empty-produces}
+use Rattle.forms.specs.Form.{Mark, Form, empty, one, then, or, many, Tree, byte, marks, bytes, Opens, Stops}
+use Rattle.forms.specs.Table.{Row, State, Table, stuck, at, Move, halt, go, move, Head, heads, heads_of, ends, each, any, Outcome, read, stopped, push, turn, final, run, same, live, kept, range, leads, comes, backs, head_fits, row_fits, state_fits, fits}
+use Rattle.forms.proofs.Heads.{Produces, Starts, here, there, starts-before, starts-behind, starts-cases, produces-starts, starts-produces, ends-produces, produces-ends, then-produces, or_left, many-none, empty-produces}
 use Rattle.forms.proofs.Tests.{never, and_left, and_right, same_true, range_at}
 
 -- one of the forms produces w
@@ -22,6 +22,7 @@ among-starts : (l : List Form) {m : Mark} {w : List Mark} → Among (m ∷ w) l 
 unfolding heads_of
 among-starts (f ∷ l) (this p) = starts-before (heads f) (heads_of l) (produces-starts p)
 among-starts (f ∷ l) (later a) = starts-behind (heads f) (heads_of l) (among-starts l a)
+among-starts [] {m = m} {w = w} x' = elim x' [ ]
 
 starts-among : (l : List Form) {m : Mark} {w : List Mark} → Starts (heads_of l) m w → Among (m ∷ w) l
 unfolding heads_of
@@ -30,6 +31,7 @@ starts-among (f ∷ l) {m} {w} s = cases (starts-among l) (starts-cases (heads f
     cases : (Starts (heads_of l) m w → Among (m ∷ w) l) → (Starts (heads f) m w) ⊎ (Starts (heads_of l) m w) → Among (m ∷ w) (f ∷ l)
     cases r (inl a) = this (starts-produces f m w a)
     cases r (inr b) = later (r b)
+starts-among [] {m = m} {w = w} s = elim s [ ]
 
 -- a form with no empty range has a sentence
 live-produces : (f : Form) → live f ≡ true → (w : List Mark) × Produces f w
@@ -118,6 +120,7 @@ heads-moved t l (h ∷ k) {m} {w} a (here s) =
     (range_at (λ b. leads t h.role h.rest (move l b)) h.from h.to m.byte (and_left (head_fits t l h) (each (head_fits t l) k) a) s.fits.low s.fits.high)
     s.fits.role s.rest
 heads-moved t l (h ∷ k) a (there s) = heads-moved t l k (and_right (head_fits t l h) (each (head_fits t l) k) a) s
+heads-moved t l [] {m = m} {w = w} a x'' = elim x'' [ ]
 
 forward : (t : Table) (s : State) {m : Mark} {w : List Mark} → state_fits t s ≡ true → Among (m ∷ w) s.forms → Moved t s.rows m w
 unfolding state_fits
@@ -160,6 +163,7 @@ all-backs r b k (f ∷ l) h (this p) =
     any_head r b f k (and_left _ (each (λ g. any (comes r b g) k) l) h) p
 all-backs r b k (f ∷ l) h (later a) =
     all-backs r b k l (and_right (any (comes r b f) k) _ h) a
+all-backs r b k [] {w = w} h x'' = elim x'' [ ]
 
 -- a byte that moves is in the range of a row
 row-backs : (t : Table) (k : List Head) (l : List Row) (p : ℕ → Bool) (b r q : ℕ) → each (λ (x : Row). range p x.from x.to) l ≡ true → move l b ≡ go r q → p b ≡ true
@@ -308,6 +312,7 @@ module _ (t : Table) (ok : fits t ≡ true) where
 
 single : {f : Form} {w : List Mark} → Among w (f ∷ []) → Produces f w
 single (this p) = p
+single {f = f} {w = w} (later x3) = elim x3 [ ]
 
 module _ (t : Table) (f : Form) (ok : fits t ≡ true) (first : (at t 0).forms ≡ f ∷ []) (some-text : live f ≡ true) where
   from-tree : (u : Tree f) → Among (marks u) (at t 0).forms

@@ -1,6 +1,6 @@
 -- Forms of text: a regular grammar as a value, the trees that it has, and their texts. A derivation of a text is a tree, so what a text says is a
 -- function of its tree. Nothing here reads.
-use Rattle.std.specs.Prelude.{◌≡◌, List, [], ◌∷◌, ◌++◌, ℕ, suc, ◌+◌, ◌≤◌, ◌<◌, length, take}
+use Rattle.std.specs.Prelude.{◌≡◌, List, [], ◌∷◌, ◌++◌, ℕ, suc, ◌≤◌, ◌<◌, length, take}
 
 -- a byte, and its role: what it is there for in the sentence that it stands in
 pub record Mark : Type 0 where
