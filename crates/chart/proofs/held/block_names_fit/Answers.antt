@@ -1,10 +1,7 @@
 -- Every block passed names what exists exactly if `fit` says so.
-use Prim.Native.Nat.{◌≤◌, ◌-◌}
-use mathlib.Core.Path.{◌≡◌, refl, ◌∙◌}
+use mathlib.Core.Path.{refl, ◌∙◌}
 use native.Mathlib.Omega.{arith}
-use Rattle.sets.specs.Loops.{all}
 use Rattle.sets.proofs.Loops.{all_start, all-turn, and-three, all_done}
-use Rattle.chart.specs.Held.{block_names_at}
 use Rattle.chart.proofs.held.block_names_fit.Goals as goal
 
 pub loop-i-init : goal.loop-i-init

@@ -1,8 +1,6 @@
 use Prim.Native.Nat.{◌≤◌, ◌-◌}
-use mathlib.Core.Path.{◌≡◌, refl, ◌∙◌}
-use native.Mathlib.Omega.{arith}
+use mathlib.Core.Path.{◌≡◌}
 use Rattle.sets.specs.Loops.{all}
-use Rattle.sets.proofs.Loops.{all_start, all-turn, and-three, all_done}
 use Rattle.chart.specs.Held.{block_names_at}
 use Rattle.chart.proofs.held.block_names_fit.Given as goal
 

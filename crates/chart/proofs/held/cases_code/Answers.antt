@@ -1,11 +1,7 @@
 -- Every case passed names a step and a signal and has an expectation exactly if the three tests say so.
-use Prim.Native.Nat.{◌+◌, ◌≤◌, ◌-◌}
-use mathlib.Core.Path.{◌≡◌, refl}
+use mathlib.Core.Path.{refl}
 use native.Mathlib.Omega.{arith}
-use lib.Dec.{leb, ltb}
-use lib.ListN.{get_or}
 use borrow.Author.Rules.{rules}
-use Rattle.sets.specs.Loops.{all}
 use Rattle.sets.proofs.Loops.{all_start, all-turn, all_done}
 use Rattle.chart.proofs.held.Laws.{cases-columns}
 use Rattle.chart.proofs.held.cases_code.Goals as goal

@@ -1,12 +1,8 @@
 use Prim.Native.Nat.{◌+◌, ◌≤◌, ◌-◌}
-use mathlib.Core.Path.{◌≡◌, refl}
-use native.Mathlib.Omega.{arith}
+use mathlib.Core.Path.{◌≡◌}
 use lib.Dec.{leb, ltb}
 use lib.ListN.{get_or}
-use borrow.Author.Rules.{rules}
 use Rattle.sets.specs.Loops.{all}
-use Rattle.sets.proofs.Loops.{all_start, all-turn, all_done}
-use Rattle.chart.proofs.held.Laws.{cases-columns}
 use Rattle.chart.proofs.held.cases_code.Given as goal
 
 abbrev pub invariant-loop-i : goal.invariant-loop-i

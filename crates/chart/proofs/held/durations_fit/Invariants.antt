@@ -1,9 +1,6 @@
 use Prim.Native.Nat.{◌≤◌, ◌-◌}
 use mathlib.Core.Path.{◌≡◌}
-use native.Mathlib.Omega.{arith}
-use borrow.Author.Rules.{rules}
 use Rattle.sets.specs.Loops.{all}
-use Rattle.sets.proofs.Loops.{all_start, all-turn, all_done}
 use Rattle.chart.specs.Held.{duration_fits_at}
 use Rattle.chart.proofs.held.durations_fit.Given as goal
 

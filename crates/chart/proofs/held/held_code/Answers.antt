@@ -1,7 +1,6 @@
 -- The limits hold or the answer is 4; then by its callees' statements, the last call first.
 use mathlib.Core.Path.{sym, ◌∙◌}
 use mathlib.Core.Bool.{not}
-use borrow.Author.Tests.{not-true, not-false}
 use Rattle.fields.specs.Fields.{unless}
 use Rattle.chart.specs.Held.{held_code}
 use Rattle.chart.proofs.held.Laws.{Limits, limits, marks-code}

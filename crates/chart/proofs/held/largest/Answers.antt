@@ -1,10 +1,7 @@
 -- `most` is the largest of those passed.
-use Prim.Native.Nat.{◌≤◌, ◌-◌}
-use mathlib.Core.Path.{◌≡◌}
 use native.Mathlib.Nat.{le_antisymm}
 use native.Mathlib.Omega.{arith}
 use borrow.Author.Rules.{rules}
-use Rattle.chart.specs.Held.{largest}
 use Rattle.chart.proofs.held.Laws.{largest-start, largest-turn}
 use Rattle.chart.proofs.held.largest.Goals as goal
 

@@ -1,10 +1,6 @@
 use Prim.Native.Nat.{◌≤◌, ◌-◌}
 use mathlib.Core.Path.{◌≡◌}
-use native.Mathlib.Nat.{le_antisymm}
-use native.Mathlib.Omega.{arith}
-use borrow.Author.Rules.{rules}
 use Rattle.chart.specs.Held.{largest}
-use Rattle.chart.proofs.held.Laws.{largest-start, largest-turn}
 use Rattle.chart.proofs.held.largest.Given as goal
 
 abbrev pub invariant-loop-i : goal.invariant-loop-i

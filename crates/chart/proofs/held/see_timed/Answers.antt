@@ -3,7 +3,7 @@ use Prim.Native.Nat.{◌+◌, ◌≤◌}
 use native.Mathlib.Omega.{arith}
 use borrow.Author.Rules.{rules}
 use Rattle.sets.proofs.Visits.{visit-less}
-use Rattle.chart.proofs.held.Timed.{Visiting, visiting-start, visiting-at, visiting-turn, visiting-end}
+use Rattle.chart.proofs.held.Timed.{visiting-start, visiting-at, visiting-turn, visiting-end}
 use Rattle.chart.proofs.held.see_timed.Goals.{After-first}
 use Rattle.chart.proofs.held.see_timed.Goals as goal
 

@@ -1,8 +1,4 @@
-use Prim.Native.Nat.{◌+◌, ◌≤◌}
-use native.Mathlib.Omega.{arith}
-use borrow.Author.Rules.{rules}
-use Rattle.sets.proofs.Visits.{visit-less}
-use Rattle.chart.proofs.held.Timed.{Visiting, visiting-start, visiting-at, visiting-turn, visiting-end}
+use Rattle.chart.proofs.held.Timed.{Visiting}
 use Rattle.chart.proofs.held.see_timed.Given as goal
 
 abbrev pub invariant-loop-rest : goal.invariant-loop-rest

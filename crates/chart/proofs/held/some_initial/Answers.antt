@@ -1,11 +1,9 @@
 -- `any` says whether a mark passed is 1.
 use native.Mathlib.Nat.{le_antisymm}
-use Prim.Native.Nat.{◌≤◌, ◌-◌}
-use mathlib.Core.Path.{◌≡◌, refl}
+use mathlib.Core.Path.{refl}
 use native.Mathlib.Omega.{arith}
-use Rattle.sets.specs.Loops.{some}
 use Rattle.sets.proofs.Loops.{some-start, some_turn}
-use Rattle.chart.specs.Held.{initial_at, some_initial}
+use Rattle.chart.specs.Held.{some_initial}
 use Rattle.chart.proofs.held.some_initial.Goals as goal
 
 pub loop-i-init : goal.loop-i-init

@@ -1,10 +1,7 @@
-use native.Mathlib.Nat.{le_antisymm}
 use Prim.Native.Nat.{◌≤◌, ◌-◌}
-use mathlib.Core.Path.{◌≡◌, refl}
-use native.Mathlib.Omega.{arith}
+use mathlib.Core.Path.{◌≡◌}
 use Rattle.sets.specs.Loops.{some}
-use Rattle.sets.proofs.Loops.{some-start, some_turn}
-use Rattle.chart.specs.Held.{initial_at, some_initial}
+use Rattle.chart.specs.Held.{initial_at}
 use Rattle.chart.proofs.held.some_initial.Given as goal
 
 abbrev pub invariant-loop-i : goal.invariant-loop-i

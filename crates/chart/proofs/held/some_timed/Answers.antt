@@ -1,13 +1,10 @@
 -- Whether one of the blocks passed is timed.
-use Prim.Native.Nat.{◌+◌, ◌≤◌, ◌-◌}
-use mathlib.Core.Path.{◌≡◌, ap, ◌∙◌}
+use mathlib.Core.Path.{ap, ◌∙◌}
 use native.Mathlib.Nat.{le_antisymm}
 use native.Mathlib.Omega.{arith}
-use lib.ListN.{get_or}
 use borrow.Author.Rules.{rules}
 use Rattle.sets.specs.Loops.{some}
 use Rattle.sets.proofs.Loops.{some-start, some_turn}
-use Rattle.fields.specs.Fields.{timed}
 use Rattle.chart.proofs.held.some_timed.Goals as goal
 
 pub loop-k-init : goal.loop-k-init

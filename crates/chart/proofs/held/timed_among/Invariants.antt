@@ -1,12 +1,7 @@
-use Prim.Native.Nat.{ℕ, ◌+◌, ◌≤◌, ◌-◌}
-use mathlib.Core.Path.{◌≡◌, ap, ◌∙◌}
-use native.Mathlib.Nat.{le_antisymm}
-use native.Mathlib.Omega.{arith}
-use lib.Pow.{pow_pos}
-use borrow.Author.Rules.{rules}
+use Prim.Native.Nat.{◌+◌, ◌≤◌, ◌-◌}
+use mathlib.Core.Path.{◌≡◌}
 use Rattle.sets.specs.Sets.{collect}
 use Rattle.chart.specs.Held.{timed_from}
-use Rattle.chart.proofs.held.Timed.{among-start, among-turn, among-limit, among-end}
 use Rattle.chart.proofs.held.timed_among.Given as goal
 
 abbrev pub invariant-loop-k : goal.invariant-loop-k

@@ -1,9 +1,9 @@
 -- `seen` has the actions with a timed block so far, and `twice` whether one had two; sixteen blocks of which none is timed change neither.
-use Prim.Native.Nat.{◌+◌, ◌-◌, ◌%◌, min}
+use Prim.Native.Nat.{◌+◌, min}
 use mathlib.Core.Path.{◌≡◌, refl}
 use native.Mathlib.Omega.{arith}
 use borrow.Author.Rules.{rules}
-use Rattle.chart.specs.Held.{timed_twice, Seen}
+use Rattle.chart.specs.Held.{timed_twice}
 use Rattle.chart.proofs.held.Timed.{none_seen, pass-sixteen}
 use Rattle.chart.proofs.held.timed_twice.Goals.{then-some_timed, else-some_timed}
 use Rattle.chart.proofs.held.timed_twice.Goals as goal

@@ -1,10 +1,6 @@
-use Prim.Native.Nat.{◌+◌, ◌-◌, ◌%◌, min}
-use mathlib.Core.Path.{◌≡◌, refl}
-use mathlib.Core.Logic.{⊎_elim}
-use native.Mathlib.Omega.{arith}
-use borrow.Author.Rules.{rules}
-use Rattle.chart.specs.Held.{timed_twice, Seen}
-use Rattle.chart.proofs.held.Timed.{none_seen, pass-sixteen}
+use Prim.Native.Nat.{◌-◌, ◌%◌, min}
+use mathlib.Core.Path.{◌≡◌}
+use Rattle.chart.specs.Held.{Seen}
 use Rattle.chart.proofs.held.timed_twice.Given as goal
 
 -- the blocks passed are whole sixteens, or all

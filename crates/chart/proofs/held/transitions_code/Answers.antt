@@ -1,10 +1,8 @@
 -- Where all pass there is no number; where one does not, no transition before the first is refused.
-use Prim.Native.Nat.{◌≤◌, ◌-◌}
-use mathlib.Core.Path.{◌≡◌, sym, ◌∙◌}
+use mathlib.Core.Path.{sym, ◌∙◌}
 use native.Mathlib.Nat.{le_antisymm}
 use native.Mathlib.Omega.{arith}
 use borrow.Author.Rules.{rules}
-use Rattle.sets.specs.Loops.{first_code}
 use Rattle.sets.proofs.Loops.{first-start, first-turn, first_found, zero-first}
 use Rattle.chart.specs.Held.{transition_code_at, transitions_code}
 use Rattle.chart.proofs.held.transitions_code.Goals as goal

@@ -1,11 +1,7 @@
 use Prim.Native.Nat.{◌≤◌, ◌-◌}
-use mathlib.Core.Path.{◌≡◌, sym, ◌∙◌}
-use native.Mathlib.Nat.{le_antisymm}
-use native.Mathlib.Omega.{arith}
-use borrow.Author.Rules.{rules}
+use mathlib.Core.Path.{◌≡◌}
 use Rattle.sets.specs.Loops.{first_code}
-use Rattle.sets.proofs.Loops.{first-start, first-turn, first_found, zero-first}
-use Rattle.chart.specs.Held.{transition_code_at, transitions_code}
+use Rattle.chart.specs.Held.{transition_code_at}
 use Rattle.chart.proofs.held.transitions_code.Given as goal
 
 abbrev pub invariant-loop-i : goal.invariant-loop-i

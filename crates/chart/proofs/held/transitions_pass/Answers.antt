@@ -1,11 +1,7 @@
 -- Every transition passed has no number exactly if `pass` says so.
-use Prim.Native.Nat.{◌≤◌, ◌-◌}
-use mathlib.Core.Path.{◌≡◌}
 use native.Mathlib.Omega.{arith}
 use borrow.Author.Rules.{rules}
-use Rattle.sets.specs.Loops.{all}
 use Rattle.sets.proofs.Loops.{all_start, all-turn, all_done}
-use Rattle.chart.specs.Held.{transition_passes_at}
 use Rattle.chart.proofs.held.transitions_pass.Goals as goal
 
 pub loop-i-init : goal.loop-i-init

@@ -1,12 +1,7 @@
 use Prim.Native.Nat.{◌≤◌, ◌-◌}
-use mathlib.Core.Path.{◌≡◌, refl}
-use native.Mathlib.Omega.{arith}
-use borrow.Author.Rules.{rules}
-use native.Mathlib.Nat.{le_antisymm}
+use mathlib.Core.Path.{◌≡◌}
 use Rattle.sets.specs.Sets.{collect}
-use Rattle.sets.proofs.Members.{collect-start, collect-turn}
 use Rattle.chart.specs.Held.{initial_at}
-use Rattle.chart.specs.Initial.{initial_set}
 use Rattle.chart.proofs.initial.initial_set.Given as goal
 
 abbrev pub invariant-loop-k : goal.invariant-loop-k

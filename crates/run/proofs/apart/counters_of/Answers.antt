@@ -1,10 +1,7 @@
 -- Each place passed has its number.
-use Prim.Native.Nat.{◌≤◌, ◌-◌}
 use mathlib.Core.Path.{refl}
 use native.Mathlib.Omega.{arith}
-use lib.ListN.{get_or}
-use Rattle.sets.proofs.Loops.{Written, written_start, written-turn, written-end}
-use Rattle.run.specs.Run.{counter}
+use Rattle.sets.proofs.Loops.{written_start, written-turn, written-end}
 use Rattle.run.proofs.apart.counters_of.Goals as goal
 
 pub loop-k-init : goal.loop-k-init

@@ -1,8 +1,6 @@
 use Prim.Native.Nat.{◌≤◌, ◌-◌}
-use mathlib.Core.Path.{refl}
-use native.Mathlib.Omega.{arith}
 use lib.ListN.{get_or}
-use Rattle.sets.proofs.Loops.{Written, written_start, written-turn, written-end}
+use Rattle.sets.proofs.Loops.{Written}
 use Rattle.run.specs.Run.{counter}
 use Rattle.run.proofs.apart.counters_of.Given as goal
 

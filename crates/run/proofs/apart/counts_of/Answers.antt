@@ -1,11 +1,8 @@
 -- Each place passed has its number.
-use Prim.Native.Nat.{◌≤◌, ◌-◌}
-use mathlib.Core.Path.{◌≡◌, refl}
+use mathlib.Core.Path.{refl}
 use native.Mathlib.Omega.{arith}
-use lib.ListN.{length, get_or}
 use borrow.Author.Rules.{rules}
-use Rattle.sets.proofs.Loops.{Written, written_start, written-turn, written-end}
-use Rattle.run.specs.Run.{counter}
+use Rattle.sets.proofs.Loops.{written_start, written-turn, written-end}
 use Rattle.run.proofs.apart.counts_of.Goals as goal
 
 pub loop-k-init : goal.loop-k-init

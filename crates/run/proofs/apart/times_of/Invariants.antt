@@ -1,9 +1,7 @@
 use Prim.Native.Nat.{◌≤◌, ◌-◌}
-use mathlib.Core.Path.{◌≡◌, refl}
-use native.Mathlib.Omega.{arith}
+use mathlib.Core.Path.{◌≡◌}
 use lib.ListN.{length, get_or}
-use borrow.Author.Rules.{rules}
-use Rattle.sets.proofs.Loops.{Written, written_start, written-turn, written-end}
+use Rattle.sets.proofs.Loops.{Written}
 use Rattle.run.specs.Run.{timer}
 use Rattle.run.proofs.apart.times_of.Given as goal
 

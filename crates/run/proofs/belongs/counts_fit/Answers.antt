@@ -4,10 +4,9 @@ use mathlib.Core.Path.{ap, ◌∙◌}
 use native.Mathlib.Omega.{arith}
 use borrow.Author.Rules.{rules}
 use lib.Dec.{eqb}
-use lib.ListN.{length}
 use Rattle.sets.proofs.Counts.{none-counted}
-use Rattle.sets.proofs.Visits.{Lessened, lessened-start, lessen-le, lessened-turn, lessened-end, visit-lt, visit-has, visit-less}
-use Rattle.run.proofs.belongs.Laws.{one, nonzero, unfit, unfit-outside, unfit-member}
+use Rattle.sets.proofs.Visits.{lessened-start, lessen-le, lessened-turn, lessened-end, visit-lt, visit-has, visit-less}
+use Rattle.run.proofs.belongs.Laws.{unfit-outside, unfit-member}
 use Rattle.run.proofs.belongs.counts_fit.Goals as goal
 
 pub nonzero-left-requires : goal.nonzero-left-requires

@@ -1,9 +1,8 @@
 -- As many as are not 0 of those passed, so no more than were passed.
-use Prim.Native.Nat.{ℕ, ◌+◌, ◌-◌, ◌≤◌}
-use mathlib.Core.Path.{◌≡◌, ap, ◌∙◌}
+use Prim.Native.Nat.{ℕ, ◌+◌}
+use mathlib.Core.Path.{ap, ◌∙◌}
 use native.Mathlib.Omega.{arith}
 use borrow.Author.Rules.{rules}
-use lib.ListN.{length}
 use Rattle.sets.specs.Loops.{counted}
 use Rattle.sets.proofs.Counts.{summed-start, summed_turn, counted-not}
 use Rattle.run.proofs.belongs.Laws.{nonzero}

@@ -1,10 +1,7 @@
-use Prim.Native.Nat.{ℕ, ◌+◌, ◌-◌, ◌≤◌}
-use mathlib.Core.Path.{◌≡◌, ap, ◌∙◌}
-use native.Mathlib.Omega.{arith}
-use borrow.Author.Rules.{rules}
+use Prim.Native.Nat.{◌-◌, ◌≤◌}
+use mathlib.Core.Path.{◌≡◌}
 use lib.ListN.{length}
 use Rattle.sets.specs.Loops.{counted}
-use Rattle.sets.proofs.Counts.{summed-start, summed_turn, counted-not}
 use Rattle.run.proofs.belongs.Laws.{nonzero}
 use Rattle.run.proofs.belongs.nonzero.Given as goal
 
