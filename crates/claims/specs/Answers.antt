@@ -2,39 +2,31 @@
 -- number; a refused cycle returns the run exactly as it was, a refused reading or start an all-zero record, and none writes an output."
 -- Each entry is proved to answer, for every argument, as the functions named here say. Below: which numbers its answers have, which test
 -- decides, in the order of document 01, and what a refusal returns.
-use Rattle.std.specs.Prelude.{ℕ, ◌+◌, ◌-◌, ◌≤◌, ◌<◌, Bool, true, false, ◌||◌, List, [], ◌∷◌, ◌++◌, ◌≡◌, refl, ℤ, length, get_or, take, drop, eqb}
-use Rattle.std.proofs.Common.{sym, ap, ◌∙◌, arith, le-leb, eq-eqb, ne_eqb}
-use Rattle.std.proofs.lemmas.Bool.{lt-leb}
-use Rattle.sets.specs.Loops.{or_else}
-use Rattle.fields.specs.Fields.{unless, kind_fits}
+use Rattle.std.specs.Prelude.{ℕ, ◌+◌, ◌-◌, ◌≤◌, ◌<◌, Bool, true, false, ◌||◌, List, [], ◌∷◌, ◌++◌, ◌≡◌, ℤ, length, get_or, take, drop, eqb}
+use Rattle.fields.specs.Fields.{kind_fits}
 use Rattle.chart.specs.Chart.{no_chart}
 use Rattle.chart.specs.Held.{chart_code}
 use Rattle.chart.specs.declared.chart.Chart.{Chart}
-use Rattle.chart.proofs.held.Each.{chart-each}
-use Rattle.reader.specs.Framing.{length_at, kind_at, body_length, record_number, record_values}
+use Rattle.reader.specs.Framing.{length_at, kind_at, body_length, record_number}
 use Rattle.reader.specs.Reading.{read_chart}
 use Rattle.reader.specs.declared.reading.Reading.{Reading}
-use Rattle.reader.proofs.framing.Laws.{is-record}
-use Rattle.reader.proofs.reading.Accepted.{read-accepted, read-refused}
 use Rattle.run.specs.Run.{no_run}
-use Rattle.run.specs.Belongs.{belongs, own_code}
+use Rattle.run.specs.Belongs.{belongs}
 use Rattle.run.specs.declared.run.Run.{Run}
 use Rattle.passes.specs.Time.{elapsed}
 use Rattle.passes.specs.Outputs.{outputs_of}
-use Rattle.cycle.specs.Cycling.{start_code, ready_code, late_code, cycle_code, start_of, cycle_of, outputs_after}
+use Rattle.cycle.specs.Cycling.{start_of, cycle_of, outputs_after}
 use Rattle.passes.specs.Explaining.{no_reasons}
 use Rattle.cycle.specs.declared.cycling.Cycled.{Cycled}
-use Rattle.cycle.proofs.cycling.Kept.{start-refused, cycle-refused}
-use Rattle.cycle.proofs.cycling.Laws.{few, enough, stops, goes_on, too-late, in-time}
+use Rattle.cycle.proofs.cycling.Laws.{too-late}
 use Rattle.key.specs.Turning.{mark_of, marked, turn_of}
 use Rattle.key.specs.declared.turning.Turned.{Turned}
 use Rattle.trace.specs.Tracing.{record_fits, trace_number}
 use Rattle.tally.specs.Tallying.{tally_of}
-use Rattle.tally.specs.Weighing.{balanced, unbalanced_in, weigh_code, refused, weighed, weigh_of}
+use Rattle.tally.specs.Weighing.{balanced, weigh_of}
 use Rattle.tally.specs.declared.tallying.Tallied.{Tallied}
 use Rattle.tally.specs.declared.weighing.Weighed.{Weighed}
-use Rattle.tally.proofs.weighing.Laws.{weights-refused, balance-refused, accepted}
-use Rattle.claims.specs.Numbers.{record-each, read-each, start-each, cycle-each, key-each, tally-each, weigh-each, trace-each, start-code, start-reasons, cycle-code, key-code, key-refused, key-accepted, tally-code, weigh-code, tally-refused, weigh-refused, weigh-names, all-balanced, first-unbalanced, left_alone, front-written, rest-kept}
+use Rattle.tally.proofs.weighing.Laws.{accepted}
 
 -- ---- the numbers
 
@@ -87,19 +79,6 @@ pub record Numbered : Type 0 where
   pub weighing : (c : Chart) (weights : List ℕ) → one_of (0 ∷ weighing_numbers) (weigh_of c weights).code ≡ true
   pub trace : (s : List ℕ) (at : ℕ) → one_of (0 ∷ trace_numbers) (trace_number s at) ≡ true
 
-pub numbered : Numbered
-numbered = record {
-  record-step = record-each (λ n. one_of (0 ∷ record_numbers) n ≡ true) refl refl refl refl;
-  reading = read-each (λ n. one_of (0 ∷ reading_numbers) n ≡ true) refl refl refl refl refl refl refl refl refl refl refl;
-  chart = chart-each (λ n. one_of (0 ∷ chart_numbers) n ≡ true) refl refl refl refl refl refl refl;
-  start = start-each (λ n. one_of (0 ∷ start_numbers) n ≡ true) refl refl refl refl refl refl refl refl;
-  cycle = cycle-each (λ n. one_of (0 ∷ cycle_numbers) n ≡ true) refl refl refl refl refl refl refl refl refl refl;
-  key = key-each (λ n. one_of (0 ∷ own_numbers) n ≡ true) refl refl refl refl refl refl refl refl;
-  tally = tally-each (λ n. one_of (0 ∷ own_numbers) n ≡ true) refl refl refl refl refl refl refl refl;
-  weighing = weigh-each (λ n. one_of (0 ∷ weighing_numbers) n ≡ true) refl refl refl refl refl refl refl refl refl;
-  trace = trace-each (λ n. one_of (0 ∷ trace_numbers) n ≡ true) refl refl;
-}
-
 -- ---- what decides, and what a refusal returns: one record per entry, its tests in their order and then the answer. Of the tests inside a
 -- chart, and of the records of a file, `held_code` of the chart's specs and `read_from` of the reader's are the order.
 
@@ -112,24 +91,10 @@ pub record RecordAnswer (s : List ℕ) (at before n : ℕ) (v : List ℕ) : Type
   pub accepted : kind_fits (kind_at s at) before ≡ true → length_at s at ≡ body_length (kind_at s at) → at + 4 + length_at s at ≤ length s → n ≡ 0
   pub same_place : (n ≡ 0 → ⊥) → v ≡ at ∷ []
 
-pub record-answers : (s : List ℕ) (at before : ℕ) → RecordAnswer s at before (record_number s at before) (record_values s at before)
-unfolding record_number record_values
-record-answers s at before = record {
-  cut-head = λ h. rw (lt-leb 4 (length s - at) (omega arith));
-  bad_kind = λ h k. rw (le-leb 4 (length s - at) (omega arith), k);
-  bad-length = λ h k z. rw (le-leb 4 (length s - at) (omega arith), k, ne_eqb (length_at s at) (body_length (kind_at s at)) z);
-  cut-body = λ h k e l. rw (le-leb 4 (length s - at) (omega arith), k, eq-eqb (length_at s at) (body_length (kind_at s at)) e, lt-leb (length_at s at) (length s - (at + 4)) (omega arith));
-  accepted = is-record s at before;
-  same_place = λ z. rw (ne_eqb (record_number s at before) 0 z);
-}
-
 -- a reading answers o; a chart that it accepts is refused by no call that tests it again
 pub record ReadingAnswer (o : Reading) : Type 0 where
   pub no-chart : (o.code ≡ 0 → ⊥) → o.chart ≡ no_chart
   pub passes : o.code ≡ 0 → chart_code o.chart ≡ 0
-
-pub reading-answers : (s : List ℕ) → ReadingAnswer (read_chart s)
-reading-answers s = record { no-chart = read-refused s; passes = λ e. (read-accepted s e).passes }
 
 -- a start with the outputs `out` lent answers o
 pub record StartAnswer (c : Chart) (out : List ℤ) (o : Cycled) : Type 0 where
@@ -142,22 +107,6 @@ pub record StartAnswer (c : Chart) (out : List ℤ) (o : Cycled) : Type 0 where
   pub untouched : (o.code ≡ 0 → ⊥) → outputs_after c o out ≡ out
   pub writes : o.code ≡ 0 → take 32 (outputs_after c o out) ≡ outputs_of c.actions c.output c.value o.run.activity
   pub no-others : o.code ≡ 0 → drop 32 (outputs_after c o out) ≡ drop 32 out
-
-pub start-answers : (c : Chart) (clock : ℕ) (out : List ℤ) → StartAnswer c out (start_of c clock (length out))
-start-answers c clock out =
-    let o = start_of c clock (length out) in
-    let n : o.code ≡ start_code c (length out) = start-code c clock (length out) in
-    record {
-      few-outputs = λ h. n ∙ sym (few (chart_code c) (length out) h);
-      bad-chart = λ h z. n ∙ sym (enough (chart_code c) (length out) h);
-      accepted = λ h e. n ∙ sym (enough (chart_code c) (length out) h) ∙ e;
-      no-run = λ z. ap (λ (o : Cycled). o.run) (start-refused c clock (length out) z);
-      takes-nothing = λ z. ap (λ (o : Cycled). o.taken) (start-refused c clock (length out) z);
-      no-reasons = start-reasons c clock (length out);
-      untouched = left_alone c o out;
-      writes = front-written c o out;
-      no-others = rest-kept c o out;
-    }
 
 -- a cycle from the run r with the outputs `out` lent answers o
 pub record CycleAnswer (c : Chart) (r : Run) (clock : ℕ) (out : List ℤ) (o : Cycled) : Type 0 where
@@ -173,30 +122,6 @@ pub record CycleAnswer (c : Chart) (r : Run) (clock : ℕ) (out : List ℤ) (o :
   pub writes : o.code ≡ 0 → take 32 (outputs_after c o out) ≡ outputs_of c.actions c.output c.value o.run.activity
   pub no-others : o.code ≡ 0 → drop 32 (outputs_after c o out) ≡ drop 32 out
 
-pub cycle-answers : (c : Chart) (r : Run) (clock inputs : ℕ) (out : List ℤ) → CycleAnswer c r clock out (cycle_of c r clock inputs (length out))
-cycle-answers c r clock inputs out =
-    let o = cycle_of c r clock inputs (length out) in
-    let n : o.code ≡ cycle_code c r clock (length out) = cycle-code c r clock inputs (length out) in
-    let late : ℕ = late_code r clock in
-    let own : ℕ = unless (belongs c r) 12 in
-    let ready : ℕ = ready_code c r (length out) in
-    let on : 32 ≤ length out → chart_code c ≡ 0 → ready ≡ own = λ h e. sym (goes_on (chart_code c) own e ∙ enough (or_else (chart_code c) own) (length out) h) in
-    let stopped : (k : ℕ) → (k ≡ 0 → ⊥) → ready ≡ k → o.code ≡ k = λ k z e. n ∙ sym (stops ready late (λ q. z (sym e ∙ q))) ∙ e in
-    let tested : 32 ≤ length out → chart_code c ≡ 0 → belongs c r ≡ true → o.code ≡ late = λ h e f. n ∙ sym (goes_on ready late (on h e ∙ ap (λ (b : Bool). unless b 12) f)) in
-    record {
-      few-outputs = λ h. stopped 15 (λ z. omega arith) (sym (few (or_else (chart_code c) own) (length out) h));
-      bad-chart = λ h z. stopped (chart_code c) z (sym (stops (chart_code c) own z ∙ enough (or_else (chart_code c) own) (length out) h));
-      other-run = λ h e f. stopped 12 (λ z. omega arith) (on h e ∙ ap (λ (b : Bool). unless b 12) f);
-      too-late = λ h e f l. tested h e f ∙ sym (too-late (elapsed r.clock clock) l);
-      accepted = λ h e f l. tested h e f ∙ sym (in-time (elapsed r.clock clock) l);
-      same-run = λ z. ap (λ (o : Cycled). o.run) (cycle-refused c r clock inputs (length out) z);
-      takes-nothing = λ z. ap (λ (o : Cycled). o.taken) (cycle-refused c r clock inputs (length out) z);
-      no-reasons = λ z. ap (λ (o : Cycled). o.reasons) (cycle-refused c r clock inputs (length out) z);
-      untouched = left_alone c o out;
-      writes = front-written c o out;
-      no-others = rest-kept c o out;
-    }
-
 -- the key turned answers o; "refused return the run as given"
 pub record KeyAnswer (held : Bool) (c : Chart) (r : Run) (o : Turned) : Type 0 where
   pub bad-chart : (chart_code c ≡ 0 → ⊥) → o.code ≡ chart_code c
@@ -205,37 +130,12 @@ pub record KeyAnswer (held : Bool) (c : Chart) (r : Run) (o : Turned) : Type 0 w
   pub same-run : (o.code ≡ 0 → ⊥) → o.run ≡ r
   pub mark : o.code ≡ 0 → o.run ≡ marked (mark_of held) r
 
-pub key-answers : (held : Bool) (c : Chart) (r : Run) → KeyAnswer held c r (turn_of held c r)
-key-answers held c r =
-    let o = turn_of held c r in
-    let n : o.code ≡ own_code c r = key-code held c r in
-    let own : ℕ = unless (belongs c r) 12 in
-    record {
-      bad-chart = λ z. n ∙ sym (stops (chart_code c) own z);
-      other-run = λ e f. n ∙ sym (goes_on (chart_code c) own e) ∙ ap (λ (b : Bool). unless b 12) f;
-      accepted = λ e f. n ∙ sym (goes_on (chart_code c) own e) ∙ ap (λ (b : Bool). unless b 12) f;
-      same-run = λ z. ap (λ (o : Turned). o.run) (key-refused held c r z);
-      mark = key-accepted held c r;
-    }
-
 -- a tally of the run r answers o
 pub record TallyAnswer (c : Chart) (r : Run) (o : Tallied) : Type 0 where
   pub bad-chart : (chart_code c ≡ 0 → ⊥) → o.code ≡ chart_code c
   pub other-run : chart_code c ≡ 0 → belongs c r ≡ false → o.code ≡ 12
   pub accepted : chart_code c ≡ 0 → belongs c r ≡ true → o.code ≡ 0
   pub three-zeros : (o.code ≡ 0 → ⊥) → (o.passed ≡ 0) × (o.failed ≡ 0) × (o.notrun ≡ 0)
-
-pub tally-answers : (c : Chart) (r : Run) → TallyAnswer c r (tally_of c r)
-tally-answers c r =
-    let o = tally_of c r in
-    let n : o.code ≡ own_code c r = tally-code c r in
-    let own : ℕ = unless (belongs c r) 12 in
-    record {
-      bad-chart = λ z. n ∙ sym (stops (chart_code c) own z);
-      other-run = λ e f. n ∙ sym (goes_on (chart_code c) own e) ∙ ap (λ (b : Bool). unless b 12) f;
-      accepted = λ e f. n ∙ sym (goes_on (chart_code c) own e) ∙ ap (λ (b : Bool). unless b 12) f;
-      three-zeros = λ z. (ap (λ (o : Tallied). o.passed) (tally-refused c r z), ap (λ (o : Tallied). o.failed) (tally-refused c r z), ap (λ (o : Tallied). o.notrun) (tally-refused c r z));
-    }
 
 -- transition t's sources weigh as much as its targets
 abbrev pub balanced_at : Chart → List ℕ → ℕ → Bool
@@ -251,32 +151,8 @@ pub record WeighingAnswer (c : Chart) (weights : List ℕ) (o : Weighed) : Type 
   pub no-total : (o.code ≡ 0 → ⊥) → o.total ≡ 0
   pub names-none : (o.code ≡ 14 → ⊥) → o.transition ≡ 0
 
-pub weighing-answers : (c : Chart) (weights : List ℕ) → WeighingAnswer c weights (weigh_of c weights)
-weighing-answers c weights =
-    let o = weigh_of c weights in
-    let n : o.code ≡ weigh_code c weights = weigh-code c weights in
-    let fair : ℕ = unless (eqb (unbalanced_in c weights) 0) 14 in
-    let many : ℕ = or_else (unless (eqb (length weights) c.steps) 13) fair in
-    record {
-      bad-chart = λ z. n ∙ sym (stops (chart_code c) many z);
-      wrong-weights = λ e z. ap (λ (o : Weighed). o.code) (sym (weights-refused c weights (refused 13 0) e z refl));
-      unbalanced = λ e l t k h f.
-          let q = sym (balance-refused c weights (refused 14 (t + 1 - 1)) (t + 1) e l (first-unbalanced c weights t k h f) (λ z. omega arith) refl) in
-          (ap (λ (o : Weighed). o.code) q, ap (λ (o : Weighed). o.transition) q ∙ omega arith);
-      accepted = λ e l h. ap (λ (o : Weighed). o.code) (sym (accepted c weights (weighed c weights) e l (all-balanced c weights h) refl));
-      no-total = weigh-refused c weights;
-      names-none = weigh-names c weights;
-    }
-
 -- a place of the trace has the number n; at its end it is over
 pub record TraceAnswer (s : List ℕ) (at n : ℕ) : Type 0 where
   pub over : length s ≤ at → n ≡ 0
   pub bad-record : at < length s → record_fits s at ≡ false → n ≡ 16
   pub accepted : at < length s → record_fits s at ≡ true → n ≡ 0
-
-pub trace-answers : (s : List ℕ) (at : ℕ) → TraceAnswer s at (trace_number s at)
-trace-answers s at = record {
-  over = λ h. rw (le-leb (length s) at h);
-  bad-record = λ h f. rw (lt-leb (length s) at h, f);
-  accepted = λ h f. rw (lt-leb (length s) at h, f);
-}

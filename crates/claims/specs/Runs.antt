@@ -1,16 +1,12 @@
 -- A run of calls: an accepted start of any chart, then any calls, each given the run that the one before returned.
-use Rattle.std.specs.Prelude.{ℕ, zero, suc, ◌+◌, Bool, true, false, cond, List, [], ◌∷◌, ◌++◌, ◌≡◌, refl, get_or, eqb}
-use Rattle.std.proofs.Common.{eqb-true}
-use Rattle.std.proofs.lemmas.Bool.{eqb-false}
+use Rattle.std.specs.Prelude.{ℕ, zero, suc, ◌+◌, Bool, true, false, cond, List, [], ◌∷◌, ◌++◌, get_or, eqb}
 use Rattle.sets.specs.Sets.{has}
 use Rattle.chart.specs.declared.chart.Chart.{Chart}
-use Rattle.run.specs.Run.{no_run}
-use Rattle.run.specs.Belongs.{own_code}
 use Rattle.run.specs.declared.run.Run.{Run}
 use Rattle.passes.specs.Explaining.{no_reasons}
-use Rattle.cycle.specs.Cycling.{refused, start_code, cycle_code, started, start_of, cycled, cycle_of}
+use Rattle.cycle.specs.Cycling.{start_of, cycle_of}
 use Rattle.cycle.specs.declared.cycling.Cycled.{Cycled}
-use Rattle.key.specs.Turning.{mark_of, marked, turned_as, turn_of}
+use Rattle.key.specs.Turning.{turn_of}
 use Rattle.key.specs.declared.turning.Turned.{Turned}
 
 -- one cycle: the clock, the inputs, and how many outputs are lent
@@ -38,28 +34,6 @@ keyed o = record { code = o.code; taken = 0; reasons = no_reasons; run = o.run }
 abbrev pub answer : Chart → Run → Call → Cycled
 answer c r (cycle x) = cycle_of c r x.clock x.inputs x.lent
 answer c r (turn held) = keyed (turn_of held c r)
-
--- what holds of an accepted cycle and of a refusal holds of every cycle
-pub each-cycle : (P : Cycled → Type 0) (c : Chart) (r : Run) (x : Cycle)
-    → (cycle_code c r x.clock x.lent ≡ 0 → P (cycled c r x.clock x.inputs)) → ((code : ℕ) → (code ≡ 0 → ⊥) → P (refused code r)) → P (answer c r (cycle x))
-each-cycle P c r x cycles refuses = go (eqb (cycle_code c r x.clock x.lent) 0) refl
-  where
-    go : (b : Bool) → eqb (cycle_code c r x.clock x.lent) 0 ≡ b → P (cond b (cycled c r x.clock x.inputs) (refused (cycle_code c r x.clock x.lent) r))
-    go true e = cycles (eqb-true _ 0 e)
-    go false e = refuses (cycle_code c r x.clock x.lent) (eqb-false _ 0 e)
-
--- and with an accepted turn of the key it holds of every answer
-pub each-answer : (P : Call → Cycled → Type 0) (c : Chart) (r : Run)
-    → ((x : Cycle) → cycle_code c r x.clock x.lent ≡ 0 → P (cycle x) (cycled c r x.clock x.inputs))
-    → ((held : Bool) → P (turn held) (keyed (turned_as 0 (marked (mark_of held) r))))
-    → ((x : Call) (code : ℕ) → (code ≡ 0 → ⊥) → P x (refused code r))
-    → (x : Call) → P x (answer c r x)
-each-answer P c r cycles turns refuses (cycle x) = each-cycle (P (cycle x)) c r x (cycles x) (refuses (cycle x))
-each-answer P c r cycles turns refuses (turn held) = go (eqb (own_code c r) 0) refl
-  where
-    go : (b : Bool) → eqb (own_code c r) 0 ≡ b → P (turn held) (keyed (cond b (turned_as 0 (marked (mark_of held) r)) (turned_as (own_code c r) r)))
-    go true e = turns held
-    go false e = refuses (turn held) (own_code c r) (eqb-false _ 0 e)
 
 -- the inputs of a call; the key has none
 abbrev pub inputs_of : Call → ℕ
@@ -101,12 +75,3 @@ departures c k h = how_many (λ t. has (get_or c.sources t 0) k) h
 -- the run that a start returns
 abbrev pub begun : Chart → ℕ → ℕ → Run
 begun c clock lent = (start_of c clock lent).run
-
--- what holds of an accepted start and of a refusal holds of every start
-pub each_start : (P : Cycled → Type 0) (c : Chart) (clock lent : ℕ) → (start_code c lent ≡ 0 → P (started c clock)) → ((code : ℕ) → (code ≡ 0 → ⊥) → P (refused code no_run))
-    → P (start_of c clock lent)
-each_start P c clock lent starts refuses = go (eqb (start_code c lent) 0) refl
-  where
-    go : (b : Bool) → eqb (start_code c lent) 0 ≡ b → P (cond b (started c clock) (refused (start_code c lent) no_run))
-    go true e = starts (eqb-true _ 0 e)
-    go false e = refuses (start_code c lent) (eqb-false _ 0 e)

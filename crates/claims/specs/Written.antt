@@ -1,27 +1,14 @@
 -- Charts written back (document 02, request i): "Write a held chart into lent bytes in the form of document 01. Reading what was written gives the
 -- same chart as far as its counts reach, and writing what was read gives the same bytes. The answer is the length written; bytes behind it stay.
 -- Refusals: the chart's own first, then 17 when the lent bytes are fewer than the chart's length, nothing written."
-use Rattle.std.specs.Prelude.{ℕ, ◌+◌, ◌-◌, ◌*◌, ◌≤◌, ◌<◌, true, List, [], ◌∷◌, ◌++◌, ◌≡◌, refl, length, take, drop, leb}
-use Rattle.std.proofs.Common.{sym, ap, ◌∙◌, le-leb}
-use Rattle.std.proofs.Math.Seq.{take-append_seam, drop-append_seam}
-use Rattle.std.proofs.lemmas.Bool.{lt-leb}
-use Rattle.sets.specs.Bytes.{over}
-use Rattle.sets.proofs.Loops.{else-zero}
-use Rattle.fields.specs.Fields.{unless}
+use Rattle.std.specs.Prelude.{ℕ, ◌+◌, ◌-◌, ◌*◌, ◌≤◌, ◌<◌, true, List, [], ◌∷◌, ◌++◌, ◌≡◌, length, take, drop}
 use Rattle.chart.specs.Held.{chart_code}
 use Rattle.chart.specs.declared.chart.Chart.{Chart}
-use Rattle.chart.proofs.held.Each.{either, else-each, chart-each}
 use Rattle.reader.specs.Reading.{accepted, read_chart}
-use Rattle.reader.proofs.reading.Accepted.{read-accepted}
-use Rattle.cycle.proofs.cycling.Laws.{stops, goes_on}
-use Rattle.writer.specs.Writing.{file_of, write_code, wrote, refused, write_chart}
-use Rattle.writer.specs.Back.{as_counted, Bytes, Typed}
+use Rattle.writer.specs.Writing.{file_of, write_chart}
+use Rattle.writer.specs.Back.{as_counted, Typed}
 use Rattle.writer.specs.declared.writing.Writing.{Writing}
-use Rattle.writer.proofs.ReadBack.{read-file}
-use Rattle.writer.proofs.WriteBack.{write-file}
-use Rattle.writer.proofs.writing.Laws.{file-length}
 use Rattle.claims.specs.Answers.{one_of, chart_numbers}
-use Rattle.claims.specs.Numbers.{picked, refused-one}
 
 -- ---- the answer
 
@@ -41,63 +28,8 @@ pub record WritingAnswer (c : Chart) (lent : List ℕ) (o : Writing) (exit : Lis
   pub writes : o.code ≡ 0 → take o.length exit ≡ file_of c
   pub no-others : o.code ≡ 0 → drop o.length exit ≡ drop o.length lent
 
-module _ (c : Chart) (lent : List ℕ) where
-  abbrev written : Writing × List ℕ
-  written = write_chart c lent
-
-  abbrev few : ℕ
-  few = unless (leb (length (file_of c)) (length lent)) 17
-
-  number : written.0.code ≡ write_code c lent
-  number = picked (λ (w : Writing × List ℕ). w.0.code) (write_code c lent) (wrote c lent) (refused (write_code c lent), lent) refl refl
-
-  turned-away : (written.0.code ≡ 0 → ⊥) → ◌≡◌ {A = Writing × List ℕ} written (refused (write_code c lent), lent)
-  turned-away = refused-one (λ (w : Writing × List ℕ). w.0.code) (write_code c lent) (wrote c lent) (refused (write_code c lent), lent) refl
-
-  let-in : written.0.code ≡ 0 → ◌≡◌ {A = Writing × List ℕ} written (wrote c lent)
-  let-in e = rw (sym number ∙ e)
-
-  each : (P : ℕ → Type 0) → P 0 → P 4 → P 5 → P 6 → P 7 → P 9 → P 8 → P 17 → P written.0.code
-  each P p0 p4 p5 p6 p7 p9 p8 p17 =
-      rw number (else-each P (chart_code c) few (chart-each P p0 p4 p5 p6 p7 p9 p8 c) (either P (leb (length (file_of c)) (length lent)) 0 17 p0 p17))
-
-  pub writing-answers : WritingAnswer c lent written.0 written.1
-  writing-answers =
-      let f = file_of c in
-      let size : Writing × List ℕ → ℕ = λ w. w.0.length in
-      record {
-        numbered = each (λ n. one_of (0 ∷ writing_numbers) n ≡ true) refl refl refl refl refl refl refl refl;
-        bad-chart = λ z. number ∙ sym (stops (chart_code c) few z);
-        few_bytes = λ e h. number ∙ sym (goes_on (chart_code c) few e) ∙ rw (lt-leb (length f) (length lent) h);
-        accepted = λ e h. number ∙ sym (goes_on (chart_code c) few e) ∙ rw (le-leb (length f) (length lent) h);
-        no_length = λ z. ap size (turned-away z);
-        untouched = λ z. ap (λ (w : Writing × List ℕ). w.1) (turned-away z);
-        long = λ e. ap size (let-in e) ∙ file-length c;
-        writes = λ e. ap (λ (w : Writing × List ℕ). take w.0.length w.1) (let-in e) ∙ take-append_seam f (drop (length f) lent);
-        no-others = λ e.
-            ap (λ (w : Writing × List ℕ). drop w.0.length w.1) (let-in e)
-            ∙ drop-append_seam f (drop (length f) lent)
-            ∙ ap (λ (n : ℕ). drop n lent) (sym (ap size (let-in e)));
-      }
-
-  -- ---- there and back
-
-  -- "Reading what was written gives the same chart as far as its counts reach", with zeros beyond them
-  pub read_back : Typed c → written.0.code ≡ 0 → read_chart (take written.0.length written.1) ≡ accepted (as_counted c)
-  read_back t e =
-      ap read_chart (writing-answers.writes e) ∙ read-file c t (else-zero (chart_code c) few (sym number ∙ e)).0
-
--- "writing what was read gives the same bytes", for every accepted file
-pub write-back : (s lent : List ℕ) → Bytes s → (read_chart s).code ≡ 0 → length s ≤ length lent
-    → ◌≡◌ {A = Writing × List ℕ} (write_chart (read_chart s).chart lent) (record { code = 0; length = length s }, over lent 0 s)
-write-back s lent b e h =
-    let f = write-file s b e in
-    let c = (read_chart s).chart in
-    let z = (writing-answers c lent).accepted (read-accepted s e).passes (rw f h) in
-    let-in c lent z ∙ rw f
-
--- so reading after writing after reading is the reading
-pub read_again : (s lent : List ℕ) → Bytes s → (read_chart s).code ≡ 0 → length s ≤ length lent
-    → read_chart (take (write_chart (read_chart s).chart lent).0.length (write_chart (read_chart s).chart lent).1) ≡ read_chart s
-read_again s lent b e h =
-    ap (λ (w : Writing × List ℕ). read_chart (take w.0.length w.1)) (write-back s lent b e h) ∙ ap read_chart (take-append_seam s (drop (length s) lent))
+-- "Reading what was written gives the same chart as far as its counts reach", with zeros beyond them
+abbrev pub ReadBack : Chart → List ℕ → Type 0
+ReadBack c lent =
+    Typed c → (write_chart c lent).0.code ≡ 0
+    → read_chart (take (write_chart c lent).0.length (write_chart c lent).1) ≡ accepted (as_counted c)

@@ -35,7 +35,7 @@ use Rattle.adding.specs.Adding.{sums, unfit, added_as, add_of, sum_of}
 use Rattle.claims.specs.Counters.{counter_in}
 use Rattle.claims.specs.Runs.{Call, cycle, after, listed, history, how_many, arrivals, departures, begun}
 use Rattle.claims.specs.Stored.{set_in, reset_in, answer_to}
-use Rattle.claims.specs.Weights.{weighed-apart}
+use Rattle.claims.proofs.Weights.{weighed-apart}
 
 -- a start and a cycle with 32 outputs lent
 abbrev began : Chart → ℕ → Run

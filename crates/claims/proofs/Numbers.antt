@@ -33,7 +33,7 @@ use Rattle.tally.specs.Tallying.{counts_of, refused as uncounted, tally_of}
 use Rattle.tally.specs.Weighing.{balanced, unbalanced, unbalanced_in, weigh_code, refused as unweighed, weighed, weigh_of}
 use Rattle.tally.specs.declared.tallying.Tallied.{Tallied}
 use Rattle.tally.specs.declared.weighing.Weighed.{Weighed}
-use Rattle.claims.specs.Runs.{each_start}
+use Rattle.claims.proofs.Runs.{each_start}
 
 -- ---- an answer by its number
 
