@@ -158,11 +158,13 @@ pub data Stopped : Next → Type 0 where
   refused : {n p : ℕ} → Stopped (Refused n p)
 
 pub stays : (r : Next) (at before : ℕ) → Stopped r → (place_after r at ≡ at) × (kind_after r before ≡ before)
+stays (Record _ _ _) at before x = elim x [ ]
 stays End at before ended = (refl, refl)
 stays (Refused n p) at before refused = (refl, refl)
 
 -- "asking again answers the same"
 pub asked-again : (s : List ℕ) (at before : ℕ) (r q : Next) → Stopped r → Answers r s at before → Answers q s (place_after r at) (kind_after r before) → q ≡ r
+asked-again s at before (Record _ _ _) q x a b = elim x [ ]
 asked-again s at before End q ended a b = record-at-unique s at before q End b a
 asked-again s at before (Refused n p) q refused a b = record-at-unique s at before q (Refused n p) b a
 

@@ -4,8 +4,7 @@ use mathlib.Core.Path.{◌≡◌, refl}
 use native.Mathlib.Omega.{arith}
 use borrow.Author.Rules.{rules}
 use Rattle.reader.specs.Framing.{body_length}
-use Rattle.reader.proofs.framing.body_length.Statement.{statement}
-use Rattle.reader.proofs.framing.body_length.Tie as tie
+use Rattle.reader.proofs.framing.body_length.Goals as goal
 
 no_body : (k : ℕ) → (0 < k → k < 7 → ⊥) → 0 ≡ body_length k
 no_body zero h = refl
@@ -17,26 +16,23 @@ no_body (suc (suc (suc (suc (suc zero))))) h = absurd (h (omega arith) (omega ar
 no_body (suc (suc (suc (suc (suc (suc zero)))))) h = absurd (h (omega arith) (omega arith))
 no_body (suc (suc (suc (suc (suc (suc (suc k))))))) h = refl
 
-returns : tie.Need-returns
-returns c = search rules
+pub returns-in-1 : goal.returns-in-1
+returns-in-1 c = search rules
 
-returns-2 : tie.Need-returns-2
-returns-2 c = search rules
+pub returns-in-2 : goal.returns-in-2
+returns-in-2 c = search rules
 
-returns-3 : tie.Need-returns-3
-returns-3 c = search rules
+pub returns-in-3 : goal.returns-in-3
+returns-in-3 c = search rules
 
-returns-4 : tie.Need-returns-4
-returns-4 c = search rules
+pub returns-in-4 : goal.returns-in-4
+returns-in-4 c = search rules
 
-returns-5 : tie.Need-returns-5
-returns-5 c = search rules
+pub returns-in-5 : goal.returns-in-5
+returns-in-5 c = search rules
 
-returns-6 : tie.Need-returns-6
-returns-6 c = search rules
+pub returns-in-6 : goal.returns-in-6
+returns-in-6 c = search rules
 
-returns-7 : tie.Need-returns-7
-returns-7 c = no_body c.before.args.kind (λ a b. omega arith)
-
-pub body-length-spec : {M : Type 1} → statement M
-body-length-spec = tie.close (tie.spec returns returns-2 returns-3 returns-4 returns-5 returns-6 returns-7)
+pub returns-in_default : goal.returns-in_default
+returns-in_default c = no_body c.args.kind (λ a b. omega arith)

@@ -10,8 +10,8 @@ use mir.Syntax.{w32}
 use mir.Val.{Fits, SFits, to_z, of_z}
 use mir.Facts.{to_z-of_z, to_z_pos}
 use borrow.Author.Tests.{ltb-true}
-use Rattle.reader.proofs.numbers.bits_of.Statement.{statement}
-use Rattle.reader.proofs.numbers.bits_of.Tie as tie
+use Rattle.reader.proofs.numbers.bits_of.Goals.{Then-v-lt0}
+use Rattle.reader.proofs.numbers.bits_of.Goals as goal
 
 -- What `!v` reads as where v is negative.
 flipped : (v : ℤ) → SFits w32 v → lt_z v (pos 0) ≡ true → to_z w32 (4294967295 - of_z w32 v) ≡ pos (mag v)
@@ -33,33 +33,30 @@ same : (v : ℤ) → SFits w32 v → lt_z v (pos 0) ≡ false → nat_abs v ≡ 
 same (pos n) f t = omega (arith, f.sfits)
 same (negsuc m) f t = let z : ◌≡◌ {A = ℕ} 0 1 = cc in omega arith
 
-low : (c : tie.Then1) → to_z w32 (4294967295 - of_z w32 c.before.args.v) ≡ pos (mag c.before.args.v)
+low : (c : Then-v-lt0) → to_z w32 (4294967295 - of_z w32 c.args.v) ≡ pos (mag c.args.v)
 low c =
     let start = c.before in
-    flipped start.args.v start.ranges.v (rw (to_z-of_z start.ranges.v) at c.if1.true)
+    flipped start.args.v start.ranges.v (rw (to_z-of_z start.ranges.v) at c.if-v-lt0.true)
 
-cast-result : tie.Need-overflow-cast-result
-cast-result c = rw (low c) (tt, record { fits = omega (arith, c.before.ranges.v.sfits) })
+pub overflow_cast-result : goal.overflow_cast-result
+overflow_cast-result c = rw (low (goal.at.overflow_cast-result c).Then-v-lt0) (tt, record { fits = omega (arith, c.ranges.v.sfits) })
 
-sub-result : tie.Need-overflow-sub-result
-sub-result c = rw (low c) (omega (arith, c.before.ranges.v.sfits))
+pub overflow_sub-result : goal.overflow_sub-result
+overflow_sub-result c = rw (low (goal.at.overflow_sub-result c).Then-v-lt0) (omega (arith, c.ranges.v.sfits))
 
-returns : tie.Need-returns
+pub returns-then-v-lt0 : goal.returns-then-v-lt0
+returns-then-v-lt0 c =
+    let start = c.before in
+    rw (low (goal.at.returns-then-v-lt0 c).Then-v-lt0) (complement start.args.v start.ranges.v (rw (to_z-of_z start.ranges.v) at c.if-v-lt0.true))
+
+pub overflow_cast-result-2 : goal.overflow_cast-result-2
+overflow_cast-result-2 c =
+    let start = c.before in
+    let e = to_z-of_z start.ranges.v in
+    rw e (whole start.args.v start.ranges.v (rw e at c.if-v-lt0.false))
+
+pub returns : goal.returns
 returns c =
     let start = c.before in
-    rw (low c) (complement start.args.v start.ranges.v (rw (to_z-of_z start.ranges.v) at c.if1.true))
-
-cast-result-2 : tie.Need-overflow-cast-result-2
-cast-result-2 c =
-    let start = c.before in
     let e = to_z-of_z start.ranges.v in
-    rw e (whole start.args.v start.ranges.v (rw e at c.if1.false))
-
-returns-2 : tie.Need-returns-2
-returns-2 c =
-    let start = c.before in
-    let e = to_z-of_z start.ranges.v in
-    rw e (same start.args.v start.ranges.v (rw e at c.if1.false))
-
-pub bits-of-spec : {M : Type 1} → statement M
-bits-of-spec = tie.close (tie.spec cast-result sub-result returns cast-result-2 returns-2)
+    rw e (same start.args.v start.ranges.v (rw e at c.if-v-lt0.false))

@@ -1,0 +1,52 @@
+-- The kind picks the case; the last one is kind 6, since the others are taken.
+use mathlib.Core.Path.{◌≡◌}
+use native.Mathlib.Omega.{arith}
+use Rattle.reader.specs.Bodies.{body_at}
+use Rattle.reader.proofs.bodies.body_at.Goals.{In_default}
+use Rattle.reader.proofs.bodies.body_at.Goals as goal
+
+-- none of the other five
+last : (c : In_default) → c.args.kind ≡ 6
+last c = omega arith
+
+pub step_at-requires : goal.step_at-requires
+step_at-requires c = rw c.in-1.is at c.requires.2
+
+pub action_at-requires : goal.action_at-requires
+action_at-requires c = rw c.in-2.is at c.requires.2
+
+pub transition_at-requires : goal.transition_at-requires
+transition_at-requires c = rw c.in-3.is at c.requires.2
+
+pub block_at-requires : goal.block_at-requires
+block_at-requires c = rw c.in-4.is at c.requires.2
+
+pub case_at-requires : goal.case_at-requires
+case_at-requires c = rw c.in-5.is at c.requires.2
+
+pub edition_at-requires : goal.edition_at-requires
+edition_at-requires c = rw (last (goal.at.edition_at-requires c).In_default) at c.requires.2
+
+pub returns-in-1 : goal.returns-in-1
+unfolding body_at
+returns-in-1 c = rw c.in-1.is c.step_at.ensures
+
+pub returns-in-2 : goal.returns-in-2
+unfolding body_at
+returns-in-2 c = rw c.in-2.is c.action_at.ensures
+
+pub returns-in-3 : goal.returns-in-3
+unfolding body_at
+returns-in-3 c = rw c.in-3.is c.transition_at.ensures
+
+pub returns-in-4 : goal.returns-in-4
+unfolding body_at
+returns-in-4 c = rw c.in-4.is c.block_at.ensures
+
+pub returns-in-5 : goal.returns-in-5
+unfolding body_at
+returns-in-5 c = rw c.in-5.is c.case_at.ensures
+
+pub returns-in_default : goal.returns-in_default
+unfolding body_at
+returns-in_default c = rw (last (goal.at.returns-in_default c).In_default) c.edition_at.ensures
