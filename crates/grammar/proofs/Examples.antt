@@ -4,7 +4,6 @@ use mathlib.Core.List.{List, [], ◌∷◌}
 use Prim.Native.Nat.{ℕ}
 use Prim.Native.Char.{code}
 use Prim.Native.String.{String, [] as ε, ◌∷◌ as ◌◂◌}
-use Rattle.sets.specs.Loops.{all, some}
 use Rattle.sets.specs.Sets.{collect}
 use Rattle.forms.specs.Table.{move, ends, seq, follow, heads, heads_of, any, Outcome, read, stopped, push, turn, final, run, same, add, rests, forms_found, table_of}
 use Rattle.grammar.specs.Grammar.{text}

@@ -1,10 +1,10 @@
 -- A table of states reads the grammar: it passes the test.
 use mathlib.Core.Path.{◌≡◌, refl, sym, ◌∙◌}
-use mathlib.Core.Bool.{Bool, true}
+use mathlib.Core.Bool.{true}
 use mathlib.Core.List.{List, [], ◌∷◌}
 use Prim.Native.Nat.{ℕ}
-use Rattle.forms.specs.Form.{Form, Mark, Tree, marks, bytes, text_of, Stops}
-use Rattle.forms.specs.Table.{Table, at, move, ends, seq, follow, heads, heads_of, each, any, Outcome, read, stopped, final, run, same, live, kept, span, leads, backs, head_fits, row_fits, state_fits, fits, add, rests, forms_found, table_of}
+use Rattle.forms.specs.Form.{Mark, Tree, marks, text_of, Stops}
+use Rattle.forms.specs.Table.{Table, at, move, ends, seq, follow, heads, heads_of, each, any, read, stopped, run, same, live, kept, span, leads, backs, head_fits, row_fits, state_fits, fits, add, rests, forms_found, table_of}
 use Rattle.forms.proofs.Reading as reading
 use Rattle.grammar.specs.Grammar.{text}
 use Rattle.grammar.proofs.Rows.{founds, entries}

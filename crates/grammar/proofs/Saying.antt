@@ -1,17 +1,17 @@
 -- The pen says what a text's tree says, production by production.
 use mathlib.Core.Path.{◌≡◌, refl, sym, ap, ap₂, ◌∙◌, subst}
-use mathlib.Core.Bool.{Bool, true}
+use mathlib.Core.Bool.{true}
 use mathlib.Core.List.{List, [], ◌∷◌, ◌++◌, append-nil}
-use Prim.Native.Nat.{ℕ, zero, suc, ◌+◌, ◌-◌, ◌*◌, ◌%◌, ◌≤◌, ◌<◌}
+use Prim.Native.Nat.{ℕ, ◌+◌, ◌*◌, ◌%◌, ◌<◌}
 use native.Mathlib.Omega.{arith}
 use lib.ListN.{length, get_or, set, length-append}
 use Rattle.fields.specs.Fields.{S, D, P}
 use Rattle.sets.specs.Sets.{insert}
-use Rattle.forms.specs.Form.{Mark, Form, empty, one, then, or, many, Tree, nothing, byte, both, left, right, done, more, marks, bytes, text_of}
+use Rattle.forms.specs.Form.{Mark, Form, one, or, many, Tree, nothing, byte, both, left, right, done, more, marks, bytes}
 use Rattle.grammar.specs.declared.Line.{Line}
-use Rattle.grammar.specs.Grammar.{◌·◌, ◌▹◌, ◌▸◌, ws, gap, perhaps, token, number, up_to_63, up_to_31, step_name, action_name, input_name, input, condition, list, steps, transition, duration, untimed, timed, qualifier, association, declaration, initial, step, text, NONE, SOURCE, TARGET, INPUT, NOT-INPUT, OWN, ACTED}
-use Rattle.grammar.specs.Meaning.{Said, a_step, a_block, a_transition, width, decimal, number_of, name_of, Inputs, with_input, with_inputs, no_inputs, inputs_of, with_names, list_of, steps_of, transition_says, transitions_say, untimed_of, timed_of, duration_of, qualified_of, association_says, associations_say, declaration_says, step_says, steps_say, text_says}
-use Rattle.grammar.specs.Pen.{Pen, joined, no_sets, settled, owning, acting, penned, said_at, pen_after, said_over, blank_pen, clipped, all_clipped, transition_with}
+use Rattle.grammar.specs.Grammar.{◌·◌, ◌▹◌, ◌▸◌, ws, gap, perhaps, token, up_to_63, up_to_31, step_name, input, condition, list, steps, transition, duration, untimed, timed, qualifier, association, declaration, initial, step, text, NONE, SOURCE, TARGET, INPUT, NOT-INPUT, ACTED}
+use Rattle.grammar.specs.Meaning.{Said, a_step, a_block, width, decimal, number_of, name_of, Inputs, with_input, with_inputs, no_inputs, inputs_of, with_names, list_of, steps_of, transition_says, transitions_say, untimed_of, timed_of, duration_of, qualified_of, association_says, associations_say, declaration_says, step_says, steps_say, text_says}
+use Rattle.grammar.specs.Pen.{Pen, joined, no_sets, settled, owning, acting, penned, said_at, said_over, blank_pen, clipped, all_clipped, transition_with}
 use Rattle.grammar.proofs.Writing.{numbered, silent, digital, numeral, Says, says_then, says_none, says-as, says-one, says-silent, says-number}
 
 -- the numbers of names
@@ -167,7 +167,7 @@ module _ (clip : ℕ → ℕ) (again : (n d : ℕ) → clip (clip n * 10 + d) �
       (says_then clip again _ _ (says-association i k a p h)
       (λ q g. skip v refl
       (says_then clip again _ _ (says-as clip again (ap (λ (x : List Said). x ++ []) g.1) (λ o e. e) (says-one clip again _ colon {Q = Owned k} (λ b x y. g.0))) (λ o e. end w refl e))))
-      (λ q g. says-associations _ k l q g)
+      (λ q g. says-associations (i + length (marks a ++ (marks v ++ (marks colon ++ marks w)))) k l q g)
 
   -- Steps.
 
@@ -233,7 +233,7 @@ module _ (clip : ℕ → ℕ) (again : (n d : ℕ) → clip (clip n * 10 + d) �
     says-names i x (more (both comma (both v (both n w))) l) p h =
         says_then clip again _ _
         (skip comma refl (skip v refl (says_then clip again _ _ (says-member _ x n p refl (name-63 n) h) (λ q k. end w refl k))))
-        (λ q k. says-names _ (insert x (name_of n)) l q k)
+        (λ q k. says-names (i + length (marks comma ++ (marks v ++ (marks n ++ marks w)))) (insert x (name_of n)) l q k)
 
     says-list : (i : ℕ) (t : Tree (list r)) (p : Pen) → With (F 0) p → Says clip again i (marks t) p [] (With (F (list_of t)))
     unfolding marks silent numeral digital
@@ -265,7 +265,7 @@ module _ (clip : ℕ → ℕ) (again : (n d : ℕ) → clip (clip n * 10 + d) �
     unfolding marks silent with_inputs
     says-inputs i x done p h = says_none clip again h
     says-inputs i x (more (both v (both word (both w u))) l) p h =
-        says_then clip again _ _ (skip v refl (skip word refl (skip w refl (says-input _ x u p h)))) (λ q k. says-inputs _ (with_input x u) l q k)
+        says_then clip again _ _ (skip v refl (skip word refl (skip w refl (says-input _ x u p h)))) (λ q k. says-inputs (i + length (marks v ++ (marks word ++ (marks w ++ marks u)))) (with_input x u) l q k)
 
     says-condition : (i : ℕ) (u : Tree condition) (p : Pen) → With (asking no_inputs) p → Says clip again i (marks u) p [] (With (asking (inputs_of u)))
     unfolding marks silent
@@ -289,7 +289,7 @@ module _ (clip : ℕ → ℕ) (again : (n d : ℕ) → clip (clip n * 10 + d) �
   unfolding marks silent transitions_say all_clipped
   says-transitions i done p = says_none clip again refl
   says-transitions i (more (both w t) l) p =
-      says_then clip again _ _ (skip w refl (says-as clip again (by t) (λ q k. k) (says-transition _ t p))) (λ q k. says-transitions _ l q)
+      says_then clip again _ _ (skip w refl (says-as clip again (by t) (λ q k. k) (says-transition _ t p))) (λ q k. says-transitions (i + length (marks w ++ marks t)) l q)
     where
       by : (u : Tree transition) → transition_says u ∷ [] ≡ clipped clip (transition_says u) ∷ []
       by (both word (both u (both from (both s (both to (both v (both is (both w (both c e))))))))) = refl

@@ -1,10 +1,10 @@
 -- One reading: all trees of a text say the same. So two answers that one statement allows are equal.
 use mathlib.Core.Path.{◌≡◌, refl, sym, ap, ◌∙◌}
 use mathlib.Core.List.{List, [], ◌∷◌}
-use Prim.Native.Nat.{ℕ, ◌*◌, ◌+◌}
+use Prim.Native.Nat.{ℕ}
 use Rattle.reader.specs.Reading.{refused}
 use Rattle.reader.specs.declared.reading.Reading.{Reading}
-use Rattle.forms.specs.Form.{Mark, Tree, marks, text_of, Stops}
+use Rattle.forms.specs.Form.{Tree, marks, text_of}
 use Rattle.forms.proofs.Place.{one_place}
 use Rattle.grammar.specs.Grammar.{text}
 use Rattle.grammar.specs.Meaning.{Said, a_step, a_block, a_transition, text_says}

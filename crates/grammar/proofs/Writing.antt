@@ -1,19 +1,18 @@
 -- The pen says what the tree says whose marks it is given.
 use mathlib.Core.Path.{◌≡◌, refl, sym, ap, ap₂, ◌∙◌, subst}
-use mathlib.Core.Bool.{Bool, true, false, cond, ◌&&◌}
-use mathlib.Core.List.{List, [], ◌∷◌, ◌++◌, append_assoc, append-nil}
-use Prim.Native.Nat.{ℕ, zero, suc, ◌+◌, ◌-◌, ◌*◌, ◌%◌, ◌≤◌, ◌<◌}
+use mathlib.Core.Bool.{Bool, true, false, ◌&&◌}
+use mathlib.Core.List.{List, [], ◌∷◌, ◌++◌, append_assoc}
+use Prim.Native.Nat.{ℕ, suc, ◌+◌, ◌-◌, ◌*◌, ◌%◌, ◌≤◌}
 use native.Mathlib.Omega.{arith}
 use lib.Dec.{eqb, leb}
-use lib.ListN.{length, length-append}
+use lib.ListN.{length}
 use borrow.Author.Tests.{eqb-true, leb-true}
 use Rattle.sets.proofs.Loops.{and-true}
-use Rattle.sets.specs.Sets.{insert}
 use Rattle.forms.proofs.Tests.{never}
 use Rattle.forms.specs.Form.{Mark, Form, empty, one, then, or, many, Tree, nothing, byte, both, left, right, done, more, marks, bytes, text_of}
 use Rattle.grammar.specs.Grammar.{NONE, FIRST, DIGIT}
 use Rattle.grammar.specs.Meaning.{Said, width, decimal, number_of}
-use Rattle.grammar.specs.Pen.{Pen, tens, penned, said_at, pen_after, said_over}
+use Rattle.grammar.specs.Pen.{Pen, penned, said_at, pen_after, said_over}
 
 -- no byte of the form has a role; each is a digit that goes on; each begins with a digit and has such behind it
 unfoldable pub silent : Form → Bool

@@ -1,5 +1,5 @@
 -- What the reading of a text answers. "A text is accepted exactly if the subset's grammar .. produces it, its steps stand so and its chart passes document 01".
-use Rattle.std.specs.Prelude.{◌≡◌, Bool, cond, List, [], ◌∷◌, ℕ, suc, max, eqb, pos}
+use Rattle.std.specs.Prelude.{◌≡◌, cond, List, [], ◌∷◌, ℕ, suc, max, eqb, pos}
 use Rattle.sets.specs.Loops.{turns}
 use Rattle.chart.specs.Chart.{empty_chart, with_action}
 use Rattle.chart.specs.Held.{chart_code}

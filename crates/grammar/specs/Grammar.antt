@@ -1,7 +1,7 @@
 -- Document 02, request (iv): "the subset's grammar, written into docs/ first". The productions of docs/GRAMMAR.md, in its order from the last to the
 -- first, as a closed form.
 use Rattle.std.specs.Prelude.{ℕ, ◌+◌}
-use Prim.Native.Char.{Char, code}
+use Prim.Native.Char.{code}
 use Prim.Native.String.{String, [], ◌∷◌}
 use Rattle.fields.specs.Fields.{N, R, S, L, D, P, SD, DS, SL, P1, P0}
 use Rattle.forms.specs.Form.{Form, empty, one, then, or, many}

@@ -2,7 +2,7 @@
 use Rattle.std.specs.Prelude.{List, [], ◌∷◌, ◌++◌, ℕ, ◌+◌, ◌-◌, ◌*◌, length}
 use Rattle.sets.specs.Sets.{insert}
 use Rattle.fields.specs.Fields.{N, R, S, L, D, P, SD, DS, SL, P1, P0}
-use Rattle.forms.specs.Form.{Form, then, or, many, Tree, nothing, byte, both, left, right, done, more, marks, bytes, text_of}
+use Rattle.forms.specs.Form.{Form, or, many, Tree, nothing, both, left, right, done, more, marks, text_of}
 use Rattle.grammar.specs.Grammar.{◌·◌, ◌▹◌, ◌▸◌, ws, gap, perhaps, token, step_name, input, condition, list, steps, transition, duration, untimed, timed, qualifier, association, declaration, initial, step, text, NONE, ACTED}
 
 -- what a text says, in its order: a step, initial (1) or not (0), with the number that names it and the place of that name; a block; a transition

@@ -1,10 +1,10 @@
 -- What a reader of the marks keeps between two bytes, and what it has to say at one. None of this has to be believed: that it says what the text's
 -- tree says is proved (proofs/Saying.antt).
-use Rattle.std.specs.Prelude.{Bool, cond, ◌&&◌, List, [], ◌∷◌, ◌++◌, ℕ, zero, suc, ◌+◌, ◌-◌, ◌*◌, ◌%◌, eqb, ltb, leb, get_or, set}
+use Rattle.std.specs.Prelude.{Bool, cond, ◌&&◌, List, [], ◌∷◌, ◌++◌, ℕ, suc, ◌+◌, ◌-◌, ◌*◌, ◌%◌, eqb, leb, get_or, set}
 use Rattle.sets.specs.Sets.{insert}
 use Rattle.forms.specs.Form.{Mark}
 use Rattle.grammar.specs.declared.Line.{Line}
-use Rattle.grammar.specs.Grammar.{NONE, FIRST, DIGIT, SOURCE, NOT-INPUT, INITIAL, STEP, OWN, ACTION, TRANSITION, NAMED, ACTED, PASSED}
+use Rattle.grammar.specs.Grammar.{FIRST, DIGIT, SOURCE, NOT-INPUT, INITIAL, STEP, OWN, ACTION, TRANSITION, NAMED, ACTED, PASSED}
 use Rattle.grammar.specs.Meaning.{Said, a_step, a_block, a_transition}
 
 -- the number that is being read or was last; which of the sets the last name goes into, in which it is not yet, or 4; sources, targets, on, off and one that is never
