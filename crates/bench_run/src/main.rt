@@ -2,15 +2,16 @@
 #![tactic(auto)]
 
 use chart::Chart;
-use libc::{STDIN_FILENO, STDOUT_FILENO};
 use report::wording::LINE;
+use std::fs::Files;
+use std::io::{Print, Read};
 
 // Lines are gathered, and written as the buffer fills; a failed write ends the run.
-fn print_run(code: u8, chart: Chart, trace: &[u8], out: &mut [u8]) {
+fn print_run(rt: &impl Print, code: u8, chart: Chart, trace: &[u8], out: &mut [u8]) {
     let mut standing = report::opening();
     let mut used = 0;
     while !standing.done {
-        used = console::written(used, LINE, out);
+        used = console::written(rt, used, LINE, out);
         if out.len() - used < LINE {
             return;
         }
@@ -18,21 +19,28 @@ fn print_run(code: u8, chart: Chart, trace: &[u8], out: &mut [u8]) {
         used += p.length;
         standing = p.standing;
     }
-    io::write_all(STDOUT_FILENO, &out[..used]);
+    // Nothing is printed behind these lines, so a failure changes nothing.
+    let _ = rt.write_all(&out[..used]);
 }
 
 // Of either input the first 65,536 bytes decide: report's law `enough` says so of the trace, document 01 of the chart.
-fn bench(file: &mut [u8], input: &mut [u8], out: &mut [u8]) {
-    let n = console::read_chart_file(file);
+fn bench(
+    rt: &(impl Files + Print),
+    stdin: &mut impl Read,
+    file: &mut [u8],
+    input: &mut [u8],
+    out: &mut [u8],
+) {
+    let n = console::read_chart_file(rt, file);
     let reading = reader::read_chart(&file[..n]);
     let chart = reading.chart;
-    let m = io::read_full(STDIN_FILENO, input);
-    print_run(reading.code, chart, &input[..m], out);
+    let m = console::read_full(stdin, input);
+    print_run(rt, reading.code, chart, &input[..m], out);
 }
 
-fn main() {
-    let mut file = io::large_buffer();
-    let mut input = io::large_buffer();
-    let mut out = io::large_buffer();
-    bench(&mut file, &mut input, &mut out);
+fn main(rt: HostRuntime) {
+    let mut file = [0; 65536];
+    let mut input = [0; 65536];
+    let mut out = [0; 65536];
+    bench(&rt, &mut rt.stdin(), &mut file, &mut input, &mut out);
 }

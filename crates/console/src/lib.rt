@@ -3,23 +3,36 @@
 
 ghost use Rattle.std.specs.Prelude.{◌≤◌, length};
 
-use libc::STDOUT_FILENO;
+use std::fs::{Files, open};
+use std::io::{Print, Read};
 
-// How many of the chart file's first bytes are in the space now. A file that can't be opened counts as empty.
-pub fn read_chart_file(space: &mut [u8]) -> usize
+// Reads until the space is full, the input ends or a read fails. How many bytes stand at the start of the space now.
+pub fn read_full(input: &mut impl Read, space: &mut [u8]) -> usize
     ensures { result ≤ length space.new }
 {
-    let fd = os::open_read(b"chart.bin");
-    if fd < 0 {
-        return 0;
+    let mut done = 0;
+    while done < space.len() {
+        match input.read(&mut space[done..]) {
+            Ok(0) => break,
+            Ok(n) => done += n,
+            Err(_) => break,
+        }
     }
-    let n = io::read_full(fd, space);
-    libc::close(fd);
-    n
+    done
+}
+
+// How many of the chart file's first bytes are in the space now. A file that can't be opened counts as empty.
+pub fn read_chart_file(rt: &impl Files, space: &mut [u8]) -> usize
+    ensures { result ≤ length space.new }
+{
+    match open(rt, "chart.bin") {
+        Ok(mut file) => read_full(&mut file, space),
+        Err(_) => 0,
+    }
 }
 
 // Where there is no room for so many bytes more, writes what is gathered. Answers how much is gathered then: all of it still after a write that failed.
-pub fn written(used: usize, room: usize, out: &[u8]) -> usize
+pub fn written(rt: &impl Print, used: usize, room: usize, out: &[u8]) -> usize
     ensures { result ≤ used }
 {
     if out.len() < used {
@@ -28,8 +41,8 @@ pub fn written(used: usize, room: usize, out: &[u8]) -> usize
     if room <= out.len() - used {
         return used;
     }
-    if io::write_all(STDOUT_FILENO, &out[..used]) {
-        return 0;
+    match rt.write_all(&out[..used]) {
+        Ok(()) => 0,
+        Err(_) => used,
     }
-    used
 }

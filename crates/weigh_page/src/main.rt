@@ -1,11 +1,13 @@
 // weigh_page: prints the page of a weighing, of the chart in chart.bin and of the weights on standard input (docs/DECISIONS.md, "The page of a weighing").
 #![tactic(auto)]
 
-use libc::{STDIN_FILENO, STDOUT_FILENO};
 use page::{Heard, LINE, LINES};
+use std::fs::Files;
+use std::io::{Print, Read};
 
 // Lines are gathered, and written as the buffer fills; a failed write ends the page.
 fn print_page<'a>(
+    rt: &impl Print,
     heard: Heard,
     n: usize,
     sources: &'a [u64; 64],
@@ -17,7 +19,7 @@ fn print_page<'a>(
     let mut k = 0;
     let mut used = 0;
     while k < LINES {
-        used = console::written(used, LINE, out);
+        used = console::written(rt, used, LINE, out);
         if out.len() - used < LINE {
             return;
         }
@@ -33,15 +35,23 @@ fn print_page<'a>(
         );
         k += 1;
     }
-    io::write_all(STDOUT_FILENO, &out[..used]);
+    // Nothing is printed behind these lines, so a failure changes nothing.
+    let _ = rt.write_all(&out[..used]);
 }
 
 // Of either input the first 65,536 bytes decide: page's law `enough` says so of the weights, document 01 of the chart.
-fn weigh(file: &mut [u8], input: &mut [u8], weights: &mut [u16], out: &mut [u8]) {
-    let n = console::read_chart_file(file);
+fn weigh(
+    rt: &(impl Files + Print),
+    stdin: &mut impl Read,
+    file: &mut [u8],
+    input: &mut [u8],
+    weights: &mut [u16],
+    out: &mut [u8],
+) {
+    let n = console::read_chart_file(rt, file);
     let reading = reader::read_chart(&file[..n]);
     let chart = reading.chart;
-    let m = io::read_full(STDIN_FILENO, input);
+    let m = console::read_full(stdin, input);
     let list = weights::list(&input[..m], weights);
     let heard = Heard {
         code: reading.code,
@@ -51,6 +61,7 @@ fn weigh(file: &mut [u8], input: &mut [u8], weights: &mut [u16], out: &mut [u8])
     };
     let initial = chart::initial_of(chart.steps, &chart.initial);
     print_page(
+        rt,
         heard,
         chart.transitions,
         &chart.sources,
@@ -61,10 +72,17 @@ fn weigh(file: &mut [u8], input: &mut [u8], weights: &mut [u16], out: &mut [u8])
     );
 }
 
-fn main() {
-    let mut file = io::large_buffer();
-    let mut input = io::large_buffer();
+fn main(rt: HostRuntime) {
+    let mut file = [0; 65536];
+    let mut input = [0; 65536];
     let mut weights = [0u16; 65];
-    let mut out = io::large_buffer();
-    weigh(&mut file, &mut input, &mut weights, &mut out);
+    let mut out = [0; 65536];
+    weigh(
+        &rt,
+        &mut rt.stdin(),
+        &mut file,
+        &mut input,
+        &mut weights,
+        &mut out,
+    );
 }
