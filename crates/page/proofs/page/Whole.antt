@@ -128,15 +128,15 @@ module _ (c : Chart) (passes : chart_code c ≡ 0) where
 -- ---- the theorems
 
 -- by the tests in their order: a refusal is line 0 alone, and where there is none the lines make the page
-by_tests : (accepted long fine miscounted : Bool) (too_long wrong faulty chart page : List ℕ) (line : ℕ → List ℕ)
+by_tests : (accepted long fine miscounted : Bool) (longs wrong faulty chart page : List ℕ) (line : ℕ → List ℕ)
     → (accepted ≡ true → cond miscounted wrong (joined line 4161) ≡ page)
-    → joined (λ k. cond (not accepted || long || not fine || miscounted) (cond (eqb k 0) (cond accepted (cond long too_long (cond fine wrong faulty)) chart) []) (line k)) 4161
-    ≡ cond accepted (cond long too_long (cond fine page faulty)) chart
-by_tests true true fine miscounted too_long wrong faulty chart page line h = joined-alone too_long 4160
-by_tests true false true true too_long wrong faulty chart page line h = joined-alone wrong 4160 ∙ h refl
-by_tests true false true false too_long wrong faulty chart page line h = h refl
-by_tests true false false miscounted too_long wrong faulty chart page line h = joined-alone faulty 4160
-by_tests false long fine miscounted too_long wrong faulty chart page line h = joined-alone chart 4160
+    → joined (λ k. cond (not accepted || long || not fine || miscounted) (cond (eqb k 0) (cond accepted (cond long longs (cond fine wrong faulty)) chart) []) (line k)) 4161
+    ≡ cond accepted (cond long longs (cond fine page faulty)) chart
+by_tests true true fine miscounted longs wrong faulty chart page line h = joined-alone longs 4160
+by_tests true false true true longs wrong faulty chart page line h = joined-alone wrong 4160 ∙ h refl
+by_tests true false true false longs wrong faulty chart page line h = h refl
+by_tests true false false miscounted longs wrong faulty chart page line h = joined-alone faulty 4160
+by_tests false long fine miscounted longs wrong faulty chart page line h = joined-alone chart 4160
 
 -- the lines that the program prints one after the other are the page
 pub whole : (file input : List ℕ) → joined (line_of file input) 4161 ≡ page_of file input
