@@ -1,7 +1,7 @@
 #!/usr/bin/env python3
 """The program bench_run, run on charts and traces and compared with what documents 01 and 02 say it prints.
 
-  tests/bench_run.py                   write what `rt check` runs it on: crates/bench_run/stdin, stdout and data/chart.bin; and examples/clamp
+  tests/bench_run.py                   write what `rt ci` runs it on: crates/bench_run/stdin, stdout and data/chart.bin; and examples/clamp
   tests/bench_run.py --check           say whether they are what this file says
   tests/bench_run.py --run [PROGRAM]   run the built program on every case, or another by its path from the root, such as build/bench_run
 

@@ -3,7 +3,7 @@
 
   tests/compare.py [--seed N] [--cases N]
 
-Run it after `rt check` and `tests/build`, which build the programs. N random files are read and N read and written back, 5 N calls are made on
+Run it after `rt ci` or `make`, and `tests/build`, which build the programs. N random files are read and N read and written back, 5 N calls are made on
 held charts and runs, N held charts written, N shifts made, N pairs of weighings added and N runs of calls made from a start through the library's
 driver, a part of the calls and shifts by an index, right or wrong, 2 N texts read, and N / 200 short ones cut and changed in every byte, 10 N in all,
 and N / 20 charts and traces run by both bench_runs, the proved one and the one in C; the second implementation does the same, and all that they write
@@ -46,9 +46,9 @@ def build(*names):
 
 def command(name):
     """The words that run a built program, found once instead of at each start."""
-    program = ROOT / "target" / "bin" / name if "/" not in name else ROOT / name
+    program = ROOT / "crates" / name / "out" / name if "/" not in name else ROOT / name
     if not program.is_file():
-        sys.exit(f"compare: {program.relative_to(ROOT)} is missing; run `rt check` and tests/build first")
+        sys.exit(f"compare: {program.relative_to(ROOT)} is missing; run `make` and tests/build first")
     words = [ROOT / "tools" / "run", "-n", name if "/" not in name else program]
     return subprocess.run(words, stdout=subprocess.PIPE, text=True, check=True).stdout.splitlines()
 

@@ -2,7 +2,7 @@
 """A program that reads chart.bin and standard input, run on cases: what tests/bench_run.py and tests/weigh_page.py share.
 
 A case is its name, the chart file (None: there is none), the input and the lines that are to be printed. The first one of a script is accepted, and
-is what `rt check` runs the program on.
+is what `rt ci` runs the program on.
 """
 import os
 import shutil
@@ -43,7 +43,7 @@ def run_unreadable(program, chart, given, lines):
     """A chart.bin that is there and that its reader may not read. Root may read every file, so there the program runs as nobody, from a copy."""
     with tempfile.TemporaryDirectory() as folder:
         os.chmod(folder, 0o755)
-        for part in ["tools/run", program if "/" in program else f"target/bin/{program}"]:
+        for part in ["tools/run", program if "/" in program else f"crates/{program}/out/{program}"]:
             (Path(folder) / part).parent.mkdir(parents=True)
             shutil.copy(ROOT / part, Path(folder) / part)
         path = Path(folder) / "chart.bin"

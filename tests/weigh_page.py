@@ -1,7 +1,7 @@
 #!/usr/bin/env python3
 """The program weigh_page, run on charts and weights and compared with the page that it is to print.
 
-  tests/weigh_page.py                   write what `rt check` runs it on: crates/weigh_page/stdin, stdout and data/chart.bin
+  tests/weigh_page.py                   write what `rt ci` runs it on: crates/weigh_page/stdin, stdout and data/chart.bin
   tests/weigh_page.py --check           say whether they are what this file says
   tests/weigh_page.py --run [PROGRAM]   run the built program on every case, or another by its path from the root
 
