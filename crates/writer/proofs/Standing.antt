@@ -60,6 +60,7 @@ bytes-length (suc w) x = ap suc (bytes-length w (x / 256))
 
 pub numbers-length : (ws xs : List ℕ) → Fit ws xs → length (numbers_bytes ws xs) ≡ total ws
 numbers-length [] xs f = refl
+numbers-length (w ∷ ws) [] f = elim f [ ]
 numbers-length (w ∷ ws) (x ∷ xs) f =
     length-append (bytes_of w x) (numbers_bytes ws xs) ∙ ap₂ ◌+◌ (bytes-length w x) (numbers-length ws xs f.1)
 
@@ -72,6 +73,7 @@ module _ (s : List ℕ) where
 
   pub numbers-back : (ws xs : List ℕ) (at : ℕ) → Fit ws xs → Stands s at (numbers_bytes ws xs) → numbers_at ws s at ≡ xs
   numbers-back [] xs at f h = sym f
+  numbers-back (w ∷ ws) [] at f h = elim f [ ]
   numbers-back (w ∷ ws) (x ∷ xs) at f h =
       let e : le w s at ≡ x = le-back w x at f.0 (stands-first s at (bytes_of w x) (numbers_bytes ws xs) h) in
       let k : Stands s (at + w) (numbers_bytes ws xs) = rw (bytes-length w x) at (stands-last s at (bytes_of w x) (numbers_bytes ws xs) h) in
