@@ -1,29 +1,26 @@
 -- What the reading answers is what the text says, of every byte string.
-use mathlib.Core.Path.{◌≡◌, refl, sym, ap, ◌∙◌, subst}
+use mathlib.Core.Path.{◌≡◌, refl, sym, ap, ◌∙◌}
 use mathlib.Core.Bool.{Bool, true, false, cond}
 use mathlib.Core.List.{List, [], ◌∷◌, ◌++◌}
 use mathlib.Core.Logic.{◌⊎◌, inl, inr}
-use Prim.Native.Nat.{ℕ, zero, suc, ◌+◌, ◌<◌}
+use Prim.Native.Nat.{ℕ, suc, ◌+◌, ◌<◌}
 use native.Mathlib.Omega.{arith}
 use native.Mathlib.Numerals.{add-one}
 use lib.Dec.{eqb, ltb}
 use lib.ListN.{get_or}
 use borrow.Author.Tests.{ltb-true}
 use Rattle.chart.specs.Chart.{empty_chart}
-use Rattle.chart.specs.Held.{chart_code}
 use Rattle.chart.specs.declared.chart.Chart.{Chart}
-use Rattle.reader.specs.Reading.{refused, closed, with_body}
+use Rattle.reader.specs.Reading.{refused, with_body}
 use Rattle.reader.specs.declared.reading.Reading.{Reading}
-use Rattle.forms.specs.Form.{Mark, Tree, marks, bytes, text_of, Stops}
 use Rattle.forms.specs.Table.{at, Move, halt, go, move, Outcome, read, stopped, push, turn, final, run}
-use Rattle.grammar.specs.Grammar.{text}
 use Rattle.grammar.specs.Meaning.{Said, a_step, a_block, a_transition, text_says}
-use Rattle.grammar.specs.Answer.{body_of, with_all, reach, with_actions, chart_said, in_order, answer_of, Answers, says, stops}
-use Rattle.grammar.specs.Pen.{Pen, penned, said_at, said_over, blank_pen, all_clipped, step_with, block_with, transition_with, settled}
+use Rattle.grammar.specs.Answer.{body_of, with_all, reach, in_order, answer_of, Answers, says, stops}
+use Rattle.grammar.specs.Pen.{Pen, penned, said_at, said_over, blank_pen, step_with, block_with, transition_with, settled}
 use Rattle.grammar.proofs.Reader.{table, read_right, stops-right}
 use Rattle.grammar.proofs.Saying.{says-text}
 use Rattle.text.specs.declared.saying.Stray.{Stray}
-use Rattle.text.specs.Scan.{clip, next_of, role_of, is_final, no_stray, stray_at, stray_in, finished, scan}
+use Rattle.text.specs.Scan.{clip, next_of, role_of, no_stray, stray_in, finished, scan}
 use Rattle.text.proofs.Clipping.{clip-again, clip-small, answer-cut}
 use Rattle.text.proofs.Dense.{told, dense, finals}
 

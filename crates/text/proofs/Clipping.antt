@@ -1,18 +1,17 @@
 -- Numbers that are cut one above the limit change no answer: what is above it is refused, whatever it is.
 use mathlib.Core.Path.{◌≡◌, refl, sym, ap, ap₂, ◌∙◌}
-use mathlib.Core.Bool.{Bool, true, false, cond, ◌&&◌, ◌||◌}
+use mathlib.Core.Bool.{Bool, true, false, cond}
 use mathlib.Core.List.{List, [], ◌∷◌, map}
-use Prim.Native.Nat.{ℕ, zero, suc, ◌+◌, ◌*◌, ◌≤◌, ◌<◌, min}
+use Prim.Native.Nat.{ℕ, zero, suc, ◌+◌, ◌*◌, ◌≤◌, ◌<◌}
 use native.Mathlib.Omega.{arith}
-use native.Mathlib.Numerals.{add-one}
 use lib.Dec.{eqb, leb}
 use lib.IntN.{pos}
-use lib.ListN.{get_or, set, replicate, length}
-use lib.Seq.{get_or-set_same, get_or-set_other}
-use borrow.Author.Tests.{eqb-true, eqb-false, eq-eqb, ne_eqb, le-leb, lt-leb, leb-true, leb-false}
+use lib.ListN.{get_or, set, replicate}
+use lib.Seq.{get_or-set_other}
+use borrow.Author.Tests.{eqb-true, lt-leb, leb-true, leb-false}
 use Rattle.sets.specs.Loops.{or_else, first_code, turns}
-use Rattle.sets.proofs.Loops.{else-zero, first-zero, and-true}
-use Rattle.fields.specs.Fields.{unless, timed, longest, duration_fits}
+use Rattle.sets.proofs.Loops.{first-zero}
+use Rattle.fields.specs.Fields.{unless, longest, duration_fits}
 use Rattle.chart.specs.Chart.{chart_of, empty_chart, with_action}
 use Rattle.chart.specs.Held.{block_fits_at, blocks_code, held_code, chart_code}
 use Rattle.chart.specs.declared.chart.Chart.{Chart}
@@ -21,7 +20,7 @@ use Rattle.reader.specs.Reading.{refused, closed, with_body}
 use Rattle.reader.specs.declared.reading.Reading.{Reading}
 use Rattle.grammar.specs.Meaning.{Said, a_step, a_block, a_transition}
 use Rattle.grammar.specs.Answer.{body_of, with_all, reach, with_actions, chart_said, in_order, answer_of}
-use Rattle.grammar.specs.Pen.{clipped, all_clipped}
+use Rattle.grammar.specs.Pen.{all_clipped}
 use Rattle.text.specs.Scan.{clip}
 
 -- as the pen asks for it

@@ -1,6 +1,6 @@
 -- The tables of the source are the rows of the grammar's reader: one test, over every byte and state.
 use mathlib.Core.Path.{◌≡◌, refl, sym, ap, ap₂, ◌∙◌}
-use mathlib.Core.Bool.{Bool, true, false, cond, ◌&&◌, ◌||◌}
+use mathlib.Core.Bool.{Bool, true, false, cond, ◌&&◌}
 use mathlib.Core.List.{List, [], ◌∷◌}
 use Prim.Native.Nat.{ℕ, zero, suc, ◌+◌, ◌<◌}
 use native.Mathlib.Omega.{arith}
@@ -9,7 +9,7 @@ use lib.ListN.{get_or, length, drop}
 use lib.Seq.{get_or-drop}
 use borrow.Author.Tests.{eqb-true}
 use Rattle.sets.proofs.Loops.{and-true}
-use Rattle.forms.specs.Table.{State, Table, stuck, at, Move, halt, go, move, ends, seq, follow, heads, heads_of, any, final, same, add, rests, forms_found, table_of}
+use Rattle.forms.specs.Table.{State, stuck, at, Move, halt, go, move, ends, seq, follow, heads, heads_of, any, final, same, add, rests, forms_found, table_of}
 use Rattle.forms.proofs.Tests.{never}
 use Rattle.grammar.specs.Grammar.{text}
 use Rattle.grammar.proofs.Rows.{founds, entries}

@@ -1,11 +1,11 @@
 -- What the tables of the source have, by computed tests.
 use mathlib.Core.Path.{◌≡◌, refl, sym, ap, ◌∙◌}
-use mathlib.Core.Bool.{Bool, true, false, cond, ◌&&◌}
+use mathlib.Core.Bool.{Bool, true, ◌&&◌}
 use mathlib.Core.List.{List, [], ◌∷◌}
-use Prim.Native.Nat.{ℕ, zero, suc, ◌+◌, ◌-◌, ◌*◌, ◌/◌, ◌%◌, ◌^◌, ◌≤◌, ◌<◌}
+use Prim.Native.Nat.{ℕ, zero, suc, ◌+◌, ◌*◌, ◌/◌, ◌^◌, ◌≤◌, ◌<◌}
 use native.Mathlib.Omega.{arith}
-use lib.Bits.{bit_and, bit_or, or_shifted, or_add_and}
-use lib.Dec.{eqb, leb, ltb}
+use lib.Bits.{bit_or, or_shifted, or_add_and}
+use lib.Dec.{eqb, leb}
 use lib.ListN.{get_or, length}
 use borrow.Author.Tests.{eqb-true, leb-true}
 use Rattle.sets.proofs.Loops.{and-true}

@@ -1,5 +1,5 @@
 -- What the functions of src/ compute. None of this has to be believed: that it is what the text says is proved (proofs/Answer.antt).
-use Rattle.std.specs.Prelude.{Bool, true, false, cond, ◌||◌, List, [], ◌∷◌, ℕ, suc, ◌+◌, ◌*◌, ◌%◌, min, eqb, ltb, get_or}
+use Rattle.std.specs.Prelude.{Bool, true, false, cond, ◌||◌, List, [], ◌∷◌, ℕ, ◌+◌, min, eqb, ltb, get_or}
 use Rattle.chart.specs.Held.{chart_code}
 use Rattle.chart.specs.declared.chart.Chart.{Chart}
 use Rattle.reader.specs.Reading.{refused, closed}
