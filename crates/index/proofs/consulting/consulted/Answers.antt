@@ -5,20 +5,11 @@ use Rattle.sets.proofs.Visits.{led-start, led-turn, led-end, visit-lt, visit-les
 use Rattle.index.proofs.consulting.Laws.{all-consulted, some-consulted}
 use Rattle.index.proofs.consulting.consulted.Goals as goal
 
-pub beyond-requires : goal.beyond-requires
-beyond-requires c = search rules
-
-pub without-requires : goal.without-requires
-without-requires c = search rules
-
 pub returns-then-index-lt64 : goal.returns-then-index-lt64
-returns-then-index-lt64 c = all-consulted _ _ _ _ c.if-index-lt64.true (rw c.beyond.ensures at c.without.ensures)
+returns-then-index-lt64 c = all-consulted _ _ _ _ c.if-index-lt64.true (cc)
 
 pub loop-rest-init : goal.loop-rest-init
 loop-rest-init c = led-start (search rules) (some-consulted c.args.index.now c.args.active c.args.n (omega arith))
-
-pub first-requires : goal.first-requires
-first-requires c = search rules
 
 pub offset_bounds-index-first : goal.offset_bounds-index-first
 offset_bounds-index-first c = omega (arith, visit-lt c.loop-rest.invariant.visited c.loop-rest-test.true c.first.ensures)
@@ -26,19 +17,13 @@ offset_bounds-index-first c = omega (arith, visit-lt c.loop-rest.invariant.visit
 pub bounds-index-first : goal.bounds-index-first
 bounds-index-first c = omega (arith, visit-lt c.loop-rest.invariant.visited c.loop-rest-test.true c.first.ensures)
 
-pub joined-leaving-requires : goal.joined-leaving-requires
-joined-leaving-requires c = search rules
-
-pub without_first-rest-requires : goal.without_first-rest-requires
-without_first-rest-requires c = search rules
-
 pub loop-rest-smaller : goal.loop-rest-smaller
 loop-rest-smaller c =
     visit-less c.loop-rest.invariant.visited c.loop-rest-test.true c.first.ensures c.without_first-rest.ensures
 
 pub loop-rest-preserved : goal.loop-rest-preserved
 loop-rest-preserved c =
-    led-turn c.loop-rest.invariant c.loop-rest-test.true c.first.ensures c.without_first-rest.ensures c.joined-leaving.ensures
+    led-turn c.loop-rest.invariant c.loop-rest-test.true c.first.ensures c.without_first-rest.ensures (cc)
 
 pub returns : goal.returns
 returns c = led-end c.loop-rest.invariant c.loop-rest-test.false
