@@ -27,10 +27,11 @@ pub fn advance(
 {
     let c = calls::cycle(chart, *run, clock, inputs, outputs);
     *run = c.run;
+    let reasons = c.reasons;
     Advanced {
         code: c.code,
         taken: c.taken,
-        reasons: c.reasons,
+        reasons,
     }
 }
 
@@ -40,10 +41,11 @@ pub fn lent_cycle(chart: Chart, run: Run, clock: u32, inputs: u32, outputs: &mut
 {
     let mut held = run;
     let a = advance(chart, &mut held, clock, inputs, outputs);
+    let reasons = a.reasons;
     Cycled {
         code: a.code,
         taken: a.taken,
-        reasons: a.reasons,
+        reasons,
         run: held,
     }
 }
