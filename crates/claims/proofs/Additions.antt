@@ -1,18 +1,17 @@
 -- What is proved of specs/Additions.antt.
-use Rattle.std.specs.Prelude.{ℕ, ◌+◌, ◌≤◌, ◌<◌, true, List, ◌∷◌, ◌⊎◌, ◌≡◌, refl, length, get_or, replicate}
+use Rattle.std.specs.Prelude.{ℕ, ◌+◌, ◌≤◌, ◌<◌, true, List, ◌∷◌, ◌≡◌, refl, length, get_or, replicate}
 use Rattle.std.proofs.Common.{sym, ap, subst, ◌∙◌, add_comm, add-sub_cancel, arith, eq-eqb, ne_eqb}
 use Rattle.std.proofs.lemmas.List.{length-replicate, get_or-replicate}
 use Rattle.chart.specs.Held.{chart_code}
 use Rattle.chart.specs.declared.chart.Chart.{Chart}
 use Rattle.chart.proofs.held.Each.{chart-each}
-use Rattle.tally.specs.Weighing.{weigh_of}
 use Rattle.tally.specs.declared.weighing.Weighed.{Weighed}
 use Rattle.adding.specs.Adding.{added_as, add_of, sum_of}
 use Rattle.adding.specs.declared.adding.Added.{Added}
 use Rattle.claims.specs.Added.{Answered, by-chart, by_lengths, by-step, by-none}
 use Rattle.claims.proofs.Added.{are-long, not-long, all_fit, first-unfit, answered, number, passed, no_less, sums-long, sums_at, listed, agree, sums-zero, part-more, tested, sums-weighed, zeros-weighed}
 use Rattle.claims.specs.Answers.{one_of}
-use Rattle.claims.specs.Additions.{adding_numbers, Fit, AddAnswer, Grouping, ZeroAdded, ShownByOne, SumWeighs, SameEitherWay}
+use Rattle.claims.specs.Additions.{adding_numbers, AddAnswer, Grouping, ZeroAdded, ShownByOne, SumWeighs, SameEitherWay}
 
 pub add-answers : (c : Chart) (first second sum : List ℕ) → AddAnswer c first second sum (add_of c first second (length sum)) (sum_of c first second sum)
 add-answers c first second sum = record {

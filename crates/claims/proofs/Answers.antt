@@ -44,7 +44,6 @@ numbered = record {
 
 pub record-answers : (s : List ℕ) (at before : ℕ) → RecordAnswer s at before (record_number s at before) (record_values s at before)
 unfolding record_number record_values
-
 record-answers s at before = record {
   cut-head = λ h. rw (lt-leb 4 (length s - at) (omega arith));
   bad_kind = λ h k. rw (le-leb 4 (length s - at) (omega arith), k);

@@ -8,7 +8,6 @@ use Rattle.sets.specs.Sets.{has}
 use Rattle.sets.proofs.Loops.{and-true, or-true, neither, get_or-table}
 use Rattle.sets.proofs.Members.{has-zero}
 use Rattle.sets.proofs.Below.{either}
-use Rattle.chart.specs.Held.{initial_at}
 use Rattle.chart.specs.declared.chart.Chart.{Chart}
 use Rattle.choice.specs.Choice.{held}
 use Rattle.acting.specs.Acting.{kept_count}
@@ -16,7 +15,7 @@ use Rattle.run.specs.Run.{longest, longer, counter}
 use Rattle.run.specs.declared.run.StepCounter.{StepCounter}
 use Rattle.run.specs.declared.run.Run.{Run}
 use Rattle.passes.specs.Time.{elapsed, step_time, grown_count}
-use Rattle.cycle.specs.Cycling.{refused, start_of, cycled}
+use Rattle.cycle.specs.Cycling.{refused, cycled}
 use Rattle.cycle.specs.declared.cycling.Cycled.{Cycled}
 use Rattle.key.specs.Turning.{mark_of, marked, turned_as}
 use Rattle.claims.specs.Editions.{target_in, Stepped}

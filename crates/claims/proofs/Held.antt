@@ -20,7 +20,7 @@ use Rattle.acting.specs.declared.Request.{Request}
 use Rattle.acting.specs.declared.Asked.{Asked}
 use Rattle.run.specs.Run.{longest, longer, counter, timer}
 use Rattle.run.specs.Apart.{counts_of}
-use Rattle.run.specs.Belongs.{count_fits, names_fit, counters_fit, timers_fit, belongs}
+use Rattle.run.specs.Belongs.{count_fits, names_fit, counters_fit, timers_fit}
 use Rattle.run.specs.declared.run.ActionTimer.{ActionTimer}
 use Rattle.run.specs.declared.run.Run.{Run}
 use Rattle.run.proofs.belongs.Laws.{Own, own}

@@ -1,5 +1,5 @@
 -- What is proved of specs/Indexes.antt.
-use Rattle.std.specs.Prelude.{ℕ, ◌^◌, ◌≤◌, ◌<◌, min, Bool, true, false, ◌&&◌, ◌||◌, not, cond, List, [], ◌∷◌, ◌≡◌, refl, ℤ, length, get_or, replicate, eqb, leb, ltb}
+use Rattle.std.specs.Prelude.{ℕ, ◌≤◌, ◌<◌, min, Bool, true, false, ◌&&◌, ◌||◌, not, cond, List, [], ◌∷◌, ◌≡◌, refl, ℤ, length, get_or, replicate, eqb, leb, ltb}
 use Rattle.std.proofs.Common.{sym, ap, ◌∙◌, arith, eq-eqb, ne_eqb, eqb-true, lt-ltb, ltb-true}
 use Rattle.sets.specs.Loops.{or_else}
 use Rattle.sets.specs.Sets.{has}
@@ -28,7 +28,7 @@ use Rattle.claims.specs.Answers.{one_of, chart_numbers}
 use Rattle.claims.proofs.Numbers.{cycle-each}
 use Rattle.claims.specs.Shifts.{turned_away}
 use Rattle.claims.proofs.Shifts.{shift-each}
-use Rattle.claims.specs.Indexes.{cycle_by_numbers, shift_by_numbers, IndexAnswer, SameAnswers, IndexedAnswers, Consulted, ConsultedEnough}
+use Rattle.claims.specs.Indexes.{cycle_by_numbers, shift_by_numbers, IndexAnswer, SameAnswers, IndexedAnswers, ConsultedEnough}
 
 -- ---- laws
 

@@ -1,6 +1,6 @@
 -- "For every step, initial plus arrivals equals departures plus active, counted in the history of taken transitions." Document 02, request (viii):
 -- "For edition 2, demand 3 reads: initial plus arrivals is at least departures plus active, arrivals counted per transition".
-use Rattle.std.specs.Prelude.{ℕ, zero, suc, ◌+◌, ◌≤◌, ◌<◌, Bool, true, false, cond, ◌&&◌, List, [], ◌∷◌, ◌++◌, ◌≡◌, refl, get_or, eqb}
+use Rattle.std.specs.Prelude.{ℕ, zero, suc, ◌+◌, ◌<◌, Bool, true, false, cond, ◌&&◌, List, [], ◌∷◌, ◌++◌, ◌≡◌, refl, get_or, eqb}
 use Rattle.std.proofs.Common.{ap, ap₂, ◌∙◌, arith, eqb-true, ne_eqb}
 use Rattle.std.proofs.lemmas.Bool.{eqb-false}
 use Rattle.sets.specs.Loops.{summed, counted}

@@ -1,9 +1,7 @@
 -- What is proved of specs/Unique.antt.
 use Rattle.std.specs.Prelude.{ℕ, min, true, false}
 use Rattle.std.proofs.Common.{ap₂}
-use Rattle.sets.specs.Sets.{beyond, first, size}
 use Rattle.sets.proofs.Unique.{is-in-unique, is-within-unique, is-apart-unique, names-below-unique, joined-unique, common-unique, without-unique, with-unique, with-if-unique, is-in-mod-unique, with-if-mod-unique, beyond-unique, first-unique, without-first-unique, size-unique}
-use Rattle.fields.specs.Fields.{unless, kind_fits, step_fits, second}
 use Rattle.fields.proofs.Unique.{is-timed-unique, or-else-unique, unless-unique, kind-fits-unique, step-fits-unique, action-fits-unique, transition-passes-unique, transition-code-unique, duration-fits-unique, block-fits-unique, case-fits-unique, edition-fits-unique, is-second-unique}
 use Rattle.chart.proofs.Unique.{at-most-unique, index-of-unique, closing-code-unique, held-code-unique, chart-code-unique, initial-of-unique}
 use Rattle.judging.specs.declared.Body.TheVariants.{Step, Action, Transition, Block, Case, Edition}
@@ -11,14 +9,12 @@ use Rattle.judging.proofs.Unique.{body-code-unique}
 use Rattle.reader.proofs.framing.Laws.{record-at-unique}
 use Rattle.reader.proofs.Unique.{from-unique, signed-unique, bits-of-unique, read-chart-unique, read-into-unique}
 use Rattle.choice.proofs.Unique.{choose-one-unique, explain-unique, hold-all-unique}
-use Rattle.index.specs.Consulting.{consulted}
 use Rattle.index.proofs.Unique.{index-of-unique as built-unique, tolwaziho-index-unique, index-after-unique, consulted-unique}
 use Rattle.acting.specs.Acting.{asked, acted}
 use Rattle.acting.proofs.Unique.{asks-unique, put-unique, act-unique}
-use Rattle.run.specs.Apart.{counts_of, run_of}
+use Rattle.run.specs.Apart.{run_of}
 use Rattle.run.proofs.Unique.{parts-belong-unique, own-code-unique, counter-longer-unique, timer-longer-unique, no-run-unique, words-of-unique, put-words-unique, counts-of-unique, times-of-unique, run-of-unique}
 use Rattle.passes.specs.Rests.{rests}
-use Rattle.passes.specs.Time.{elapsed}
 use Rattle.cycle.specs.Stepping.{all_kept}
 use Rattle.passes.proofs.Unique.{elapsed-unique, step-time-unique, choose-unique, choose-from-unique, steps-of-unique, signals-of-unique, marks-of-unique, ask-blocks-unique, write-outputs-unique, explain-unique as call-explain-unique, keep-if-unique}
 use Rattle.cycle.proofs.Unique.{ready-code-unique}
@@ -29,10 +25,8 @@ use Rattle.shift.proofs.Unique.{lists-code-unique, clocks-taken-unique, shift-un
 use Rattle.trace.proofs.Unique.{call-at-unique}
 use Rattle.tally.proofs.Unique.{tally-unique, weigh-unique, weight-in-unique}
 use Rattle.writer.proofs.Unique.{write-chart-unique}
-use Rattle.report.specs.Printing.{opening}
 use Rattle.report.proofs.Unique.{opening-unique, print-next-unique}
 use Rattle.adding.proofs.Unique.{add-after-unique, add-unique, tolwaziho-add-unique}
-use Rattle.lines.specs.Lines.{text, digit}
 use Rattle.lines.proofs.Unique.{digit-unique, put-unique as put-bytes-unique, put-decimal-unique, put-word-unique, put-named-unique, put-line-unique, chart-line-unique}
 use Rattle.weights.proofs.Unique.{says-unique, list-unique}
 use Rattle.page.proofs.Unique.{page-line-unique}

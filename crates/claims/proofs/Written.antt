@@ -1,5 +1,5 @@
 -- What is proved of specs/Written.antt.
-use Rattle.std.specs.Prelude.{ℕ, ◌-◌, ◌≤◌, true, List, ◌∷◌, ◌≡◌, refl, length, take, drop, leb}
+use Rattle.std.specs.Prelude.{ℕ, ◌≤◌, true, List, ◌∷◌, ◌≡◌, refl, length, take, drop, leb}
 use Rattle.std.proofs.Common.{sym, ap, ◌∙◌, le-leb}
 use Rattle.std.proofs.Math.Seq.{take-append_seam, drop-append_seam}
 use Rattle.std.proofs.lemmas.Bool.{lt-leb}
@@ -9,11 +9,11 @@ use Rattle.fields.specs.Fields.{unless}
 use Rattle.chart.specs.Held.{chart_code}
 use Rattle.chart.specs.declared.chart.Chart.{Chart}
 use Rattle.chart.proofs.held.Each.{either, else-each, chart-each}
-use Rattle.reader.specs.Reading.{accepted, read_chart}
+use Rattle.reader.specs.Reading.{read_chart}
 use Rattle.reader.proofs.reading.Accepted.{read-accepted}
 use Rattle.cycle.proofs.cycling.Laws.{stops, goes_on}
 use Rattle.writer.specs.Writing.{file_of, write_code, wrote, refused, write_chart}
-use Rattle.writer.specs.Back.{as_counted, Bytes, Typed}
+use Rattle.writer.specs.Back.{Bytes}
 use Rattle.writer.specs.declared.writing.Writing.{Writing}
 use Rattle.writer.proofs.ReadBack.{read-file}
 use Rattle.writer.proofs.WriteBack.{write-file}

@@ -1,5 +1,5 @@
 -- For Additions: the four ways in which an addition is answered, additions that agree at each step, and what a sum weighs.
-use Rattle.std.specs.Prelude.{ℕ, ◌-◌, ◌≤◌, ◌<◌, List, ◌≡◌, length}
+use Rattle.std.specs.Prelude.{ℕ, ◌≤◌, ◌<◌, List, ◌≡◌, length}
 use Rattle.chart.specs.Held.{chart_code}
 use Rattle.chart.specs.declared.chart.Chart.{Chart}
 use Rattle.adding.specs.Adding.{sum_at, added_as}

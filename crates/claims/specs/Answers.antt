@@ -2,7 +2,7 @@
 -- number; a refused cycle returns the run exactly as it was, a refused reading or start an all-zero record, and none writes an output."
 -- Each entry is proved to answer, for every argument, as the functions named here say. Below: which numbers its answers have, which test
 -- decides, in the order of document 01, and what a refusal returns.
-use Rattle.std.specs.Prelude.{ℕ, ◌+◌, ◌-◌, ◌≤◌, ◌<◌, Bool, true, false, ◌||◌, List, [], ◌∷◌, ◌++◌, ◌≡◌, ℤ, length, get_or, take, drop, eqb}
+use Rattle.std.specs.Prelude.{ℕ, ◌+◌, ◌≤◌, ◌<◌, Bool, true, false, ◌||◌, List, [], ◌∷◌, ◌++◌, ◌≡◌, ℤ, length, get_or, take, drop, eqb}
 use Rattle.fields.specs.Fields.{kind_fits}
 use Rattle.chart.specs.Chart.{no_chart}
 use Rattle.chart.specs.Held.{chart_code}
@@ -18,7 +18,6 @@ use Rattle.passes.specs.Outputs.{outputs_of}
 use Rattle.cycle.specs.Cycling.{start_of, cycle_of, outputs_after}
 use Rattle.passes.specs.Explaining.{no_reasons}
 use Rattle.cycle.specs.declared.cycling.Cycled.{Cycled}
-use Rattle.cycle.proofs.cycling.Laws.{too-late}
 use Rattle.key.specs.Turning.{mark_of, marked, turn_of}
 use Rattle.key.specs.declared.turning.Turned.{Turned}
 use Rattle.trace.specs.Tracing.{record_fits, trace_number}
@@ -26,7 +25,6 @@ use Rattle.tally.specs.Tallying.{tally_of}
 use Rattle.tally.specs.Weighing.{balanced, weigh_of}
 use Rattle.tally.specs.declared.tallying.Tallied.{Tallied}
 use Rattle.tally.specs.declared.weighing.Weighed.{Weighed}
-use Rattle.tally.proofs.weighing.Laws.{accepted}
 
 -- ---- the numbers
 

@@ -11,7 +11,6 @@ use Rattle.index.specs.Building.{indexed_as, built_of}
 use Rattle.index.specs.declared.building.Indexed.{Indexed}
 use Rattle.run.specs.declared.run.Run.{Run}
 use Rattle.choice.specs.Choice.{chosen_from, held}
-use Rattle.choice.proofs.Laws.{not-active}
 use Rattle.cycle.specs.Cycling.{refused, choice_of, why_in, cycle_of, cycle_by}
 use Rattle.shift.specs.Shifting.{shift_of, shift_by}
 use Rattle.claims.specs.Answers.{one_of, chart_numbers, start_numbers}

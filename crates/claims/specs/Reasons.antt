@@ -8,7 +8,7 @@ use Rattle.choice.specs.Choice.{tested, chosen, held}
 use Rattle.choice.specs.declared.Choice.{Choice}
 use Rattle.run.specs.declared.run.Run.{Run}
 use Rattle.passes.specs.Moving.{signals_of}
-use Rattle.cycle.specs.Cycling.{refused, counts_at}
+use Rattle.cycle.specs.Cycling.{counts_at}
 use Rattle.passes.specs.Explaining.{no_reasons}
 use Rattle.cycle.specs.declared.cycling.Cycled.{Cycled}
 use Rattle.claims.specs.Runs.{Cycle}

@@ -2,7 +2,7 @@
 -- stand so and its chart passes document 01; it has one reading. .. Refusals: 19 with the place of the first byte that no sentence of the grammar can
 -- continue through, or the text's length if it ends too early; then 25 with the place of the first step name out of number order; then the chart's own, in
 -- a held chart's order, with place 0. Each returns an all-zero chart."
-use Prim.Native.Nat.{ℕ, ◌+◌}
+use Prim.Native.Nat.{ℕ}
 use Rattle.std.specs.Prelude.{true, List, [], ◌∷◌, ◌++◌, ◌≡◌, length}
 use Rattle.sets.specs.Loops.{table}
 use Rattle.chart.specs.Chart.{no_chart}
