@@ -10,7 +10,7 @@ ghost use Rattle.calls.specs.Lent.{left};
 use chart::Chart;
 use run::Words;
 
-// One cycle by document 01's lent run, which is proved by hand and takes the chart and the run by value: for the tests.
+// One cycle by document 01's lent run, which takes the chart and the run by value: for the tests.
 #[unsafe(no_mangle)]
 pub extern "C" fn tolwaziho_advance<'a>(
     steps: usize,

@@ -7,7 +7,7 @@ ghost use Rattle.run.specs.Apart.{words_at, run_of};
 ghost use Rattle.cycle.specs.Cycling.{cycle_on};
 ghost use Rattle.calls.specs.Lent.{left};
 
-// One cycle by document 01's lent run, which is proved by hand and takes the chart and the run by value: for the tests.
+// One cycle by document 01's lent run, which takes the chart and the run by value: for the tests.
 #[unsafe(no_mangle)]
 pub extern "C" fn tolwaziho_advance<'a>(
     steps: usize,

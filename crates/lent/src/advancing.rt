@@ -35,7 +35,7 @@ pub fn advance(
     }
 }
 
-// The lent run for callers that hold it by value: no reference to a run stands in this contract, so their proofs need no walk by hand.
+// The lent run for callers that hold it by value: no reference to a run stands in this contract.
 pub fn lent_cycle(chart: Chart, run: Run, clock: u32, inputs: u32, outputs: &mut [i32]) -> Cycled
     ensures { (result ≡ cycle_of chart run clock inputs (length outputs.old)) × (outputs.new ≡ outputs_after chart result outputs.old) }
 {

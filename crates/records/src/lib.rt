@@ -61,7 +61,7 @@ pub fn next_record<'s, 'a>(r: &'s mut Records<'a>) -> Next
     found.answer
 }
 
-// The same with plain parameters: a caller that lends no `Records` is proved without a walk.
+// The same with plain parameters, for a caller that lends no `Records`.
 pub fn record_from(bytes: &[u8], at: usize, before: u16) -> Found
     ensures { Finds result bytes.now at before }
 {
