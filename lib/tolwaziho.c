@@ -1,26 +1,15 @@
-/* The calls of include/tolwaziho.h: each hands a struct's fields to the proved entry of its name, by their addresses. Nothing is copied, tested or
-   decided here. */
+/* The calls of include/tolwaziho.h: each hands what it is lent to the proved entry of its name. Nothing is copied, tested or decided here. */
 #include "tolwaziho.h"
 
 #include "entries.h"
-
-/* A chart's fields as the macro CHART of entries.h has them. */
-#define TABLES_OF(c) \
-	(c)->initial, (c)->output, (c)->value, (c)->sources, (c)->targets, (c)->on, (c)->off, (c)->wait, (c)->blockstep, (c)->blockaction, \
-	(c)->qualifier, (c)->duration, (c)->casestep, (c)->signal, (c)->expected
-#define CHART_OF(c) (c)->steps, (c)->actions, (c)->transitions, (c)->blocks, (c)->cases, TABLES_OF(c), (c)->edition
 
 /* An index as INDEX has it, and none: of its words, which are as valid as any, no one is read. */
 #define INDEX_OF(x) (x)->leaving, TW_STEPS
 #define NO_INDEX(c) (c)->sources, 0
 
-/* A run's as RUN has them. */
-#define RUN_OF(r) \
-	&(r)->clock, &(r)->active, &(r)->activity, &(r)->stored, &(r)->latched, (r)->counters, (r)->timers, &(r)->good, &(r)->bad, &(r)->hold
-
-enum tw_code tw_read(const uint8_t *bytes, size_t size, struct tw_chart *c, size_t *place)
+enum tw_code tw_read(const uint8_t *bytes, size_t size, struct tw_chart *chart, size_t *place)
 {
-	return tolwaziho_read(bytes, size, &c->steps, &c->actions, &c->transitions, &c->blocks, &c->cases, TABLES_OF(c), &c->edition, place);
+	return tolwaziho_read(bytes, size, chart, place);
 }
 
 enum tw_code tw_read_text(const uint8_t *text, size_t size, struct tw_chart *chart, size_t *place)
@@ -30,84 +19,74 @@ enum tw_code tw_read_text(const uint8_t *text, size_t size, struct tw_chart *cha
 
 enum tw_code tw_test(const struct tw_chart *chart)
 {
-	return tolwaziho_test(CHART_OF(chart));
+	return tolwaziho_test(chart);
 }
 
 enum tw_code tw_write(const struct tw_chart *chart, uint8_t *bytes, size_t lent, size_t *length)
 {
-	return tolwaziho_write(CHART_OF(chart), bytes, lent, length);
+	return tolwaziho_write(chart, bytes, lent, length);
 }
 
 enum tw_code tw_start(const struct tw_chart *chart, struct tw_run *run, uint32_t clock, int32_t *outputs, size_t lent)
 {
-	return tolwaziho_start(CHART_OF(chart), RUN_OF(run), clock, outputs, lent);
+	return tolwaziho_start(chart, run, clock, outputs, lent);
 }
 
 enum tw_code tw_cycle(const struct tw_chart *chart, struct tw_run *run, uint32_t clock, uint32_t inputs, int32_t *outputs, size_t lent,
 	uint64_t *taken, uint8_t reasons[TW_TRANSITIONS])
 {
-	return tolwaziho_cycle(CHART_OF(chart), NO_INDEX(chart), RUN_OF(run), clock, inputs, outputs, lent, taken, reasons);
-}
-
-/* The key turned, to hold or back. */
-static enum tw_code turn(const struct tw_chart *chart, struct tw_run *r, bool held)
-{
-	return tolwaziho_turn(CHART_OF(chart), r->clock, r->active, r->activity, r->stored, r->latched, r->counters, r->timers, r->good, r->bad,
-		&r->hold, held);
+	return tolwaziho_cycle(chart, NO_INDEX(chart), run, clock, inputs, outputs, lent, taken, reasons);
 }
 
 enum tw_code tw_hold(const struct tw_chart *chart, struct tw_run *run)
 {
-	return turn(chart, run, true);
+	return tolwaziho_turn(chart, run, true);
 }
 
 enum tw_code tw_release(const struct tw_chart *chart, struct tw_run *run)
 {
-	return turn(chart, run, false);
+	return tolwaziho_turn(chart, run, false);
 }
 
 enum tw_code tw_shift(const struct tw_chart *chart, struct tw_run *run, const uint32_t *clocks, size_t nclocks, const uint32_t *inputs,
 	size_t ninputs, uint64_t *activities, size_t nactivities, int32_t *outputs, size_t lent, size_t *accepted)
 {
-	return tolwaziho_shift(CHART_OF(chart), NO_INDEX(chart), RUN_OF(run), clocks, nclocks, inputs, ninputs, activities, nactivities, outputs, lent,
-		accepted);
+	return tolwaziho_shift(chart, NO_INDEX(chart), run, clocks, nclocks, inputs, ninputs, activities, nactivities, outputs, lent, accepted);
 }
 
 /* The chart's own test, whose number the index goes by. */
 enum tw_code tw_index(const struct tw_chart *chart, struct tw_index *index)
 {
-	return tolwaziho_index(tolwaziho_test(CHART_OF(chart)), chart->transitions, chart->sources, index->leaving);
+	return tolwaziho_index(tolwaziho_test(chart), chart->transitions, chart->sources, index->leaving);
 }
 
 enum tw_code tw_cycle_by(const struct tw_chart *chart, const struct tw_index *index, struct tw_run *run, uint32_t clock, uint32_t inputs,
 	int32_t *outputs, size_t lent, uint64_t *taken, uint8_t reasons[TW_TRANSITIONS])
 {
-	return tolwaziho_cycle(CHART_OF(chart), INDEX_OF(index), RUN_OF(run), clock, inputs, outputs, lent, taken, reasons);
+	return tolwaziho_cycle(chart, INDEX_OF(index), run, clock, inputs, outputs, lent, taken, reasons);
 }
 
 enum tw_code tw_shift_by(const struct tw_chart *chart, const struct tw_index *index, struct tw_run *run, const uint32_t *clocks, size_t nclocks,
 	const uint32_t *inputs, size_t ninputs, uint64_t *activities, size_t nactivities, int32_t *outputs, size_t lent, size_t *accepted)
 {
-	return tolwaziho_shift(CHART_OF(chart), INDEX_OF(index), RUN_OF(run), clocks, nclocks, inputs, ninputs, activities, nactivities, outputs,
-		lent, accepted);
+	return tolwaziho_shift(chart, INDEX_OF(index), run, clocks, nclocks, inputs, ninputs, activities, nactivities, outputs, lent, accepted);
 }
 
-enum tw_code tw_tally(const struct tw_chart *chart, const struct tw_run *r, struct tw_tallied *tallied)
+enum tw_code tw_tally(const struct tw_chart *chart, const struct tw_run *run, struct tw_tallied *tallied)
 {
-	return tolwaziho_tally(CHART_OF(chart), r->clock, r->active, r->activity, r->stored, r->latched, r->counters, r->timers, r->good, r->bad,
-		r->hold, &tallied->passed, &tallied->failed, &tallied->notrun);
+	return tolwaziho_tally(chart, run, &tallied->passed, &tallied->failed, &tallied->notrun);
 }
 
 enum tw_code tw_weigh(const struct tw_chart *chart, const uint16_t *weights, size_t nweights, struct tw_weighed *weighed)
 {
-	return tolwaziho_weigh(CHART_OF(chart), weights, nweights, &weighed->transition, &weighed->total);
+	return tolwaziho_weigh(chart, weights, nweights, &weighed->transition, &weighed->total);
 }
 
 /* As tw_index, by the chart's own test. */
 enum tw_code tw_add(const struct tw_chart *chart, const uint16_t *first, size_t nfirst, const uint16_t *second, size_t nsecond, uint16_t *sum,
 	size_t nsum, size_t *step)
 {
-	return tolwaziho_add(tolwaziho_test(CHART_OF(chart)), chart->steps, first, nfirst, second, nsecond, sum, nsum, step);
+	return tolwaziho_add(tolwaziho_test(chart), chart->steps, first, nfirst, second, nsecond, sum, nsum, step);
 }
 
 enum tw_code tw_next_record(const uint8_t *bytes, size_t size, struct tw_reader *reader, struct tw_record *record)
@@ -118,7 +97,7 @@ enum tw_code tw_next_record(const uint8_t *bytes, size_t size, struct tw_reader 
 enum tw_code tw_advance(const struct tw_chart *chart, struct tw_run *run, uint32_t clock, uint32_t inputs, int32_t *outputs, size_t lent,
 	uint64_t *taken, uint8_t reasons[TW_TRANSITIONS])
 {
-	return tolwaziho_advance(CHART_OF(chart), RUN_OF(run), clock, inputs, outputs, lent, taken, reasons);
+	return tolwaziho_advance(chart, run, clock, inputs, outputs, lent, taken, reasons);
 }
 
 const char *tw_name(enum tw_code code)

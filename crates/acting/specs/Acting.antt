@@ -64,6 +64,10 @@ ripens (Set t) = false
 ripens (Latch t u) = u
 ripens (Want t) = false
 
+-- of no block
+abbrev pub none_asked : Asked
+none_asked = record { reset = 0; set = 0; latch = 0; want = 0; ripe = 0 }
+
 -- one request more, for action a
 abbrev pub putting : Asked → ℕ → Request → Asked
 putting x a r = record {

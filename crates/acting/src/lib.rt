@@ -2,10 +2,14 @@
 #![tactic(auto)]
 
 ghost use Rattle.std.specs.Prelude.{◌≡◌, ◌%◌, get_or};
-ghost use Rattle.acting.specs.Acting.{kept_count, putting, request_at, acted};
+ghost use Rattle.run.specs.Apart.{counts_of, times_of};
+ghost use Rattle.acting.specs.Acting.{kept_count, none_asked, putting, request_at, acted};
+
+use fields::{Block, Qualifier};
+use run::run::{ActionTimer, StepCounter};
 
 // The steps that blocks go by: active now, entered, left, and those whose counter runs on.
-#[derive(Clone, Copy)]
+#[derive(Clone, Copy, Debug, PartialEq, Eq)]
 pub struct Steps {
     pub active: u64,
     pub entered: u64,
@@ -14,7 +18,7 @@ pub struct Steps {
 }
 
 // What a block asks for its action, if its condition holds: a latch also says whether the action's timer makes it active.
-#[derive(Clone, Copy)]
+#[derive(Clone, Copy, Debug, PartialEq, Eq)]
 pub enum Request {
     Reset(bool),
     Set(bool),
@@ -23,7 +27,7 @@ pub enum Request {
 }
 
 // The actions that blocks reset, set, latch and make active, and those that a latch makes active.
-#[derive(Clone, Copy)]
+#[derive(Clone, Copy, Debug, PartialEq, Eq)]
 pub struct Asked {
     pub reset: u64,
     pub set: u64,
@@ -32,7 +36,7 @@ pub struct Asked {
     pub ripe: u64,
 }
 
-#[derive(Clone, Copy)]
+#[derive(Clone, Copy, Debug, PartialEq, Eq)]
 pub struct Acted {
     pub stored: u64,
     pub latched: u64,
@@ -40,57 +44,77 @@ pub struct Acted {
 }
 
 // A step's counter once the steps have moved.
-fn count_of(kept: u64, step: usize, counts: &[u32; 64]) -> u32
-    ensures { result ≡ kept_count kept (step % 64) (get_or counts.now (step % 64) 0) }
+fn count_of(kept: u64, step: usize, counters: &[StepCounter; 64]) -> u32
+    ensures { result ≡ kept_count kept (step % 64) (get_or (counts_of counters.now) (step % 64) 0) }
 {
     if sets::is_in_mod(kept, step) {
-        counts[step % 64]
+        counters[step % 64].0
     } else {
         0
     }
 }
 
+fn time_of(action: usize, timers: &[ActionTimer; 32]) -> u32
+    ensures { result ≡ get_or (times_of timers.now) (action % 32) 0 }
+{
+    timers[action % 32].0
+}
+
 // Each qualifier asks only what it needs: most blocks of a chart go by one membership alone. The numbers of a chart that passed its test are
 // below 64 and 32; of any other the rest counts, so that none is tested here.
-pub fn asks<'a>(
-    qualifier: u8,
-    duration: u32,
-    step: usize,
-    action: usize,
-    counts: &'a [u32; 64],
-    times: &'a [u32; 32],
+pub fn asks(
+    block: Block,
+    counters: &[StepCounter; 64],
+    timers: &[ActionTimer; 32],
     steps: Steps,
 ) -> Request
-    ensures { result ≡ request_at (step % 64) qualifier duration (get_or counts.now (step % 64) 0) (get_or times.now (action % 32) 0) steps }
+    ensures { result ≡ request_at (block.step % 64) block.qualifier block.duration (get_or (counts_of counters.now) (block.step % 64) 0) (get_or (times_of timers.now) (block.action % 32) 0) steps }
 {
-    match qualifier {
-        0 => Request::Want(sets::is_in_mod(steps.active, step)),
-        1 => Request::Reset(sets::is_in_mod(steps.active, step)),
-        2 => Request::Set(sets::is_in_mod(steps.active, step)),
-        3 => {
-            let count = count_of(steps.kept, step, counts);
-            Request::Want(sets::is_in_mod(steps.active, step) & (count < duration))
+    let step = block.step as usize;
+    let action = block.action as usize;
+    match Qualifier::try_from(block.qualifier) {
+        Ok(Qualifier::N) => Request::Want(sets::is_in_mod(steps.active, step)),
+        Ok(Qualifier::R) => Request::Reset(sets::is_in_mod(steps.active, step)),
+        Ok(Qualifier::S) => Request::Set(sets::is_in_mod(steps.active, step)),
+        Ok(Qualifier::L) => {
+            let count = count_of(steps.kept, step, counters);
+            Request::Want(sets::is_in_mod(steps.active, step) & (count < block.duration))
         }
-        4 => {
-            let count = count_of(steps.kept, step, counts);
-            Request::Want(sets::is_in_mod(steps.active, step) & (duration <= count))
+        Ok(Qualifier::D) => {
+            let count = count_of(steps.kept, step, counters);
+            Request::Want(sets::is_in_mod(steps.active, step) & (block.duration <= count))
         }
-        5 => Request::Want(sets::is_in_mod(steps.entered, step)),
-        6 => Request::Latch(
+        Ok(Qualifier::P) => Request::Want(sets::is_in_mod(steps.entered, step)),
+        Ok(Qualifier::Sd) => Request::Latch(
             sets::is_in_mod(steps.active, step),
-            duration <= times[action % 32],
+            block.duration <= time_of(action, timers),
         ),
-        7 => {
-            let count = count_of(steps.kept, step, counts);
-            Request::Set(sets::is_in_mod(steps.active, step) & (duration <= count))
+        Ok(Qualifier::Ds) => {
+            let count = count_of(steps.kept, step, counters);
+            Request::Set(sets::is_in_mod(steps.active, step) & (block.duration <= count))
         }
-        8 => Request::Latch(
+        Ok(Qualifier::Sl) => Request::Latch(
             sets::is_in_mod(steps.active, step),
-            times[action % 32] < duration,
+            time_of(action, timers) < block.duration,
         ),
-        9 => Request::Want(sets::is_in_mod(steps.entered, step)),
-        10 => Request::Want(sets::is_in_mod(steps.left, step)),
-        11..=255 => Request::Want(false),
+        Ok(Qualifier::P1) => Request::Want(sets::is_in_mod(steps.entered, step)),
+        Ok(Qualifier::P0) => Request::Want(sets::is_in_mod(steps.left, step)),
+        Err(_) => Request::Want(false),
+    }
+}
+
+impl Asked {
+    // Of no block.
+    pub fn none() -> Asked
+        ensures { result ≡ none_asked }
+    {
+        Asked {
+            reset: 0,
+            set: 0,
+            latch: 0,
+            want: 0,
+            ripe: 0,
+        }
     }
 }
 

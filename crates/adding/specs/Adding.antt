@@ -5,7 +5,7 @@ use Rattle.sets.specs.Loops.{first_code, table}
 use Rattle.fields.specs.Fields.{unless}
 use Rattle.chart.specs.Held.{chart_code}
 use Rattle.chart.specs.declared.chart.Chart.{Chart}
-use Rattle.adding.specs.declared.adding.Added.{Added}
+use Rattle.adding.specs.Answer.{Added}
 
 -- "the sum, step by step": of step k
 abbrev pub sum_at : List ℕ → List ℕ → ℕ → ℕ

@@ -2,6 +2,5 @@
 #![tactic(auto)]
 
 pub mod adding;
-pub mod codes;
 
-pub use adding::{Added, add, add_after};
+pub use adding::{Unadded, add, add_steps};

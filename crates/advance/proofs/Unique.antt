@@ -1,9 +1,7 @@
 -- Two answers that the statement allows are equal, with all that they leave.
-use mathlib.Core.List.{List}
-use mathlib.Core.Path.{◌≡◌}
-use lib.IntN.{ℤ}
+use Rattle.std.proofs.Common.{List, ◌≡◌, ℤ}
 use Rattle.sets.proofs.Unique.{one_answer}
-use Rattle.cycle.specs.declared.cycling.Cycled.{Cycled}
+use Rattle.cycle.specs.Answer.{Cycled}
 use Rattle.calls.specs.Lent.{Left, left}
 
 pub advance-unique : (o : Cycled × List ℤ) (r q : Left) → r ≡ left o → q ≡ left o → r ≡ q

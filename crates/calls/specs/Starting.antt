@@ -4,8 +4,8 @@ use Rattle.chart.specs.declared.chart.Chart.{Chart}
 use Rattle.run.specs.Apart.{run_of}
 use Rattle.cycle.specs.Cycling.{start_of, answered}
 use Rattle.passes.specs.Explaining.{no_reasons}
-use Rattle.cycle.specs.declared.cycling.Cycled.{Cycled}
-use Rattle.calls.specs.declared.starting.Started.{Started}
+use Rattle.cycle.specs.Answer.{Cycled}
+use Rattle.calls.specs.Answer.{Started}
 
 -- a start's answer with the run put together
 abbrev pub begun : Started → Cycled

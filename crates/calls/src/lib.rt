@@ -5,4 +5,4 @@ pub mod cycling;
 pub mod starting;
 
 pub use cycling::{cycle, cycle_by};
-pub use starting::{Started, start, start_on};
+pub use starting::start;

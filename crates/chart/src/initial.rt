@@ -1,25 +1,18 @@
 // A chart's initial steps, as a set.
-ghost use Rattle.std.specs.Prelude.{◌≡◌, ◌≤◌};
+ghost use Rattle.std.specs.Prelude.{◌≡◌};
 ghost use Rattle.chart.specs.Initial.{initial_set};
 
-use crate::held;
+use crate::chart::Chart;
 
-fn initial_set(n: usize, initial: &[u8; 64]) -> u64
-    requires { n ≤ 64 }
-    ensures { result ≡ initial_set n initial.now }
-{
-    let mut s = 0u64;
-    let mut k = 0;
-    while k < n {
-        s = sets::with_if(s, k, initial[k] == 1);
-        k += 1;
+impl Chart {
+    // Of any number of steps that a caller holds: the table has no more.
+    pub fn initial_set(&self) -> u64
+        ensures { result ≡ initial_set self.now.steps self.now.initial }
+    {
+        let mut set = 0;
+        for k in 0..self.steps.min(self.initial.len()) {
+            set = sets::with_if(set, k, self.initial[k] == 1);
+        }
+        set
     }
-    s
-}
-
-// The same of any number of steps that a caller holds: the table has no more.
-pub fn initial_of(n: usize, initial: &[u8; 64]) -> u64
-    ensures { result ≡ initial_set n initial.now }
-{
-    initial_set(held::within(n, initial), initial)
 }

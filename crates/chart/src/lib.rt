@@ -2,10 +2,7 @@
 #![tactic(auto)]
 
 pub mod chart;
-pub mod codes;
 pub mod held;
 pub mod initial;
 
-pub use chart::{Chart, at_most, index_of};
-pub use held::{chart_code, closing_code, held_code};
-pub use initial::initial_of;
+pub use chart::Chart;

@@ -1,14 +1,16 @@
 -- Reasons and what is taken; and "A target so tested lets a step left in this cycle be entered in it": not in the first edition. What is left was
 -- active at the cycle's beginning, and there what is entered was not.
-use Prim.Native.Nat.{ℕ, zero, suc, ◌+◌, ◌≤◌, ◌<◌, min}
+use Prim.Native.Nat.{ℕ, zero, suc, ◌+◌, ◌-◌, ◌≤◌, ◌<◌, min}
 use mathlib.Core.List.{List}
 use mathlib.Core.Bool.{Bool, true, false, ◌&&◌, not, cond}
 use mathlib.Core.Path.{◌≡◌, refl, sym, ap, ◌∙◌}
 use native.Mathlib.Omega.{arith}
+use Rattle.std.proofs.Common.{◌++◌, drop, length-append, length-drop}
+use Rattle.std.proofs.lemmas.List.{length-replicate, get_or_append_left, get_or-append_right, get_or-drop}
 use lib.ListN.{get_or, length, length-set, set, replicate, get_or-replicate}
 use lib.Seq.{get_or-set_same, get_or-set_other}
 use lib.Dec.{ltb, eqb}
-use borrow.Author.Tests.{ltb-true, lt-ltb, le-ltb, eqb-true, eqb-false}
+use borrow.Author.Tests.{ltb-true, ltb-false, lt-ltb, le-ltb, eqb-true, eqb-false}
 use Rattle.sets.specs.Loops.{or_else, table, turns}
 use Rattle.sets.specs.Sets.{has, Within, Apart, among}
 use Rattle.sets.proofs.Loops.{bool_eq, and-true, turns-start, turns_more, length-table, get_or-table, is-table, true-all}
@@ -17,6 +19,9 @@ use Rattle.sets.proofs.Visits.{turns-none-from, turns_same}
 use Rattle.sets.proofs.Below.{has-union, within_has, apart-has, either, never}
 use Rattle.fields.specs.Fields.{unless, second}
 use Rattle.choice.specs.Choice.{ripe, reason, tested, takes, choosing_at, none_taken, chosen, chosen_from, reason_at, held, reason_under, reasons_of, held_reasons}
+use Rattle.run.specs.Run.{counter}
+use Rattle.run.specs.Apart.{counts_of}
+use Rattle.run.specs.declared.run.StepCounter.{StepCounter}
 use Rattle.choice.specs.declared.Choice.{Choice}
 
 -- ---- a reason is 0 exactly if every test holds
@@ -76,42 +81,9 @@ reason-most ch s t on off w counts active signals =
 
 -- ---- the first test that fails
 
-module _ (ch : Choice) (s t on off w : ℕ) (counts : List ℕ) (active signals : ℕ) where
-  abbrev Is : ℕ → Type 0
-  Is n = n ≡ reason ch s t on off w counts active signals
-
-  pub not-active : Within s active ≡ false → Is 1
-  unfolding reason
-  not-active a = rw a
-
-  module _ (a : Within s active ≡ true) where
-    pub used : Apart s ch.left ≡ false → Is 2
-    unfolding reason
-    used b = rw (a, b)
-
-    module _ (b : Apart s ch.left ≡ true) where
-      pub signal : (Within on signals && Apart off signals) ≡ false → Is 3
-      unfolding reason
-      signal d = rw (a, b, d)
-
-      module _ (d : (Within on signals && Apart off signals) ≡ true) where
-        pub early : ripe w s counts ≡ false → Is 4
-        unfolding reason
-        early r = rw (a, b, d, r)
-
-        module _ (r : ripe w s counts ≡ true) where
-          pub occupied : Apart t active ≡ false → Is 5
-          unfolding reason
-          occupied e = rw (a, b, d, r, e)
-
-          module _ (e : Apart t active ≡ true) where
-            pub claimed : Apart t ch.claimed ≡ false → Is 6
-            unfolding reason
-            claimed f = rw (a, b, d, r, e, f)
-
-            pub none : Apart t ch.claimed ≡ true → Is 0
-            unfolding reason
-            none f = rw (a, b, d, r, e, f)
+pub not-active : (ch : Choice) (s t on off w : ℕ) (counts : List ℕ) (active signals : ℕ) → Within s active ≡ false → 1 ≡ reason ch s t on off w counts active signals
+unfolding reason
+not-active ch s t on off w counts active signals a = rw a
 
 -- ---- the reasons so far, and 0 beyond
 
@@ -213,18 +185,21 @@ module _ (edition : ℕ) (sources targets on off wait counts : List ℕ) (active
   unfolding reasons_of
   all-explained n t l e h = all_told freely n t l e h
 
--- of a run that is held
-pub none-held-yet : replicate 64 0 ≡ held_reasons 0
+-- of a run that is held: as many sevens as there are transitions, with room for 64
+pub all-held : (n m : ℕ) → m ≡ min n 64 → replicate {A = ℕ} m 7 ++ drop m (replicate 64 0) ≡ held_reasons n
 unfolding held_reasons
-none-held-yet = none_told (λ t. 7)
-
-pub one-held : (t : ℕ) (l : List ℕ) → l ≡ held_reasons t → t < 64 → set l t 7 ≡ held_reasons (t + 1)
-unfolding held_reasons
-one-held t l e m = one_told (λ t. 7) t 7 l e m refl
-
-pub every_held : (n t : ℕ) (l : List ℕ) → l ≡ held_reasons t → t ≡ min n 64 → l ≡ held_reasons n
-unfolding held_reasons
-every_held n t l e h = all_told (λ t. 7) n t l e h
+all-held n m h = told-are (λ t. 7) n (replicate m 7 ++ drop m (replicate 64 0)) (simp (length-append, length-replicate, length-drop) (omega arith)) (λ k l. at k l)
+  where
+    at : (k : ℕ) → k < 64 → get_or {A = ℕ} (replicate m 7 ++ drop m (replicate 64 0)) k 0 ≡ cond (ltb k n) 7 0
+    at k l = go (ltb k m) refl
+      where
+        go : (b : Bool) → ltb k m ≡ b → get_or {A = ℕ} (replicate m 7 ++ drop m (replicate 64 0)) k 0 ≡ cond (ltb k n) 7 0
+        go true e =
+            let q = ltb-true k m e in
+            get_or_append_left (replicate m 7) (drop m (replicate 64 0)) 0 k (omega (arith, length-replicate {A = ℕ} m 7)) ∙ get_or-replicate m k 7 0 q ∙ rw (lt-ltb k n (omega arith))
+        go false e =
+            let q = ltb-false k m e in
+            get_or-append_right _ _ m k 0 (length-replicate {A = ℕ} m 7) q ∙ get_or-drop m _ (k - m) 0 ∙ get_or-replicate 64 (m + (k - m)) 0 0 (omega arith) ∙ rw (le-ltb k n (omega arith))
 
 -- ---- the two editions
 
@@ -321,3 +296,8 @@ module _ (edition : ℕ) (sources targets on off wait counts : List ℕ) (active
           go : (b : Bool) → has consulted t ≡ b → cond b (one t ch) ch ≡ ch
           go true e = absurd (omega (arith, only t k e))
           go false e = refl
+
+-- ---- a step's counter as a number
+
+pub count-at : (counters : List StepCounter) (k : ℕ) → k < 64 → get_or (counts_of counters) k 0 ≡ (get_or counters k (counter 0)).0
+count-at counters k l = get_or-table (λ j. (get_or counters j (counter 0)).0) 64 k 0 l

@@ -13,12 +13,11 @@ use Rattle.fields.specs.Fields.{unless}
 use Rattle.chart.specs.Held.{chart_code}
 use Rattle.chart.specs.declared.chart.Chart.{Chart}
 use Rattle.tally.specs.Weighing.{weight, weight_in, weigh_of}
-use Rattle.tally.proofs.weighing.Laws.{accepted}
 use Rattle.adding.specs.Adding.{sum_at, sums, unfit, are_long, added_as, add_of, sum_of}
-use Rattle.adding.specs.declared.adding.Added.{Added}
-use Rattle.adding.proofs.adding.Laws.{fits, too_large, long}
+use Rattle.adding.specs.Answer.{Added}
 use Rattle.claims.proofs.Numbers.{first-none, weigh-code, all-balanced}
 use Rattle.claims.proofs.Sums.{sum-split}
+use Rattle.claims.proofs.Tests.{weigh-accepted, fits, too_large, long}
 use Rattle.claims.specs.Weights.{Balanced, initial_weight}
 use Rattle.claims.proofs.Weights.{unless-none, weighed}
 use Rattle.claims.specs.Added.{Lengths, Fitting, Answered, by-chart, by-none, by-step, by_lengths}
@@ -33,12 +32,12 @@ not-long n first second lent z = not-eq-not.0 (λ e. z (long n first second lent
 -- where all sums fit, no step is found
 pub all_fit : (n : ℕ) (a b : List ℕ) → Fitting (sum_at a b) n → unfit n a b ≡ 0
 unfolding unfit
-all_fit n a b f = first-none _ n (λ j l. fits a b j refl (f j l))
+all_fit n a b f = first-none _ n (λ j l. fits a b j (f j l))
 
 -- the first whose sum doesn't is found
 pub first-unfit : (n : ℕ) (a b : List ℕ) (k : ℕ) → k < n → Fitting (sum_at a b) k → 65535 < sum_at a b k → unfit n a b ≡ k + 1
 unfolding unfit
-first-unfit n a b k l f o = sym (first_found _ k n (k + 1) (all_fit k a b f) l (too_large a b k refl o) (λ z. omega arith))
+first-unfit n a b k l f o = sym (first_found _ k n (k + 1) (all_fit k a b f) l (too_large a b k o) (λ z. omega arith))
 
 -- what is found: 0, or one more than where the first number below n is that doesn't fit
 data First (s : ℕ → ℕ) (n : ℕ) : ℕ → Type 0 where
@@ -179,7 +178,7 @@ module _ (c : Chart) (weights : List ℕ) where
   weighs : chart_code c ≡ 0 → length weights ≡ c.steps → Balanced c (of weights) → (total : ℕ) → total ≡ initial_weight c (of weights)
       → weigh_of c weights ≡ record { code = 0; transition = 0; total = total }
   unfolding weight_in
-  weighs e l h total q = sym (accepted c weights _ e l (all-balanced c weights (λ t k. eq-eqb _ _ (h t k))) (rw q))
+  weighs e l h total q = weigh-accepted c weights e l (all-balanced c weights (λ t k. eq-eqb _ _ (h t k))) ∙ rw q
 
 -- a sum of two that are accepted is accepted, with both totals
 pub sums-weighed : (c : Chart) (a b : List ℕ) → (weigh_of c a).code ≡ 0 → (weigh_of c b).code ≡ 0

@@ -5,9 +5,9 @@ use Rattle.std.proofs.lemmas.List.{length-replicate, get_or-replicate}
 use Rattle.chart.specs.Held.{chart_code}
 use Rattle.chart.specs.declared.chart.Chart.{Chart}
 use Rattle.chart.proofs.held.Each.{chart-each}
-use Rattle.tally.specs.declared.weighing.Weighed.{Weighed}
+use Rattle.tally.specs.Answer.{Weighed}
 use Rattle.adding.specs.Adding.{added_as, add_of, sum_of}
-use Rattle.adding.specs.declared.adding.Added.{Added}
+use Rattle.adding.specs.Answer.{Added}
 use Rattle.claims.specs.Added.{Answered, by-chart, by_lengths, by-step, by-none}
 use Rattle.claims.proofs.Added.{are-long, not-long, all_fit, first-unfit, answered, number, passed, no_less, sums-long, sums_at, listed, agree, sums-zero, part-more, tested, sums-weighed, zeros-weighed}
 use Rattle.claims.specs.Answers.{one_of}

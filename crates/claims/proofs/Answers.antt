@@ -15,18 +15,17 @@ use Rattle.run.specs.Belongs.{belongs, own_code}
 use Rattle.run.specs.declared.run.Run.{Run}
 use Rattle.passes.specs.Time.{elapsed}
 use Rattle.cycle.specs.Cycling.{start_code, ready_code, late_code, cycle_code, start_of, cycle_of}
-use Rattle.cycle.specs.declared.cycling.Cycled.{Cycled}
+use Rattle.cycle.specs.Answer.{Cycled}
 use Rattle.cycle.proofs.cycling.Kept.{start-refused, cycle-refused}
 use Rattle.cycle.proofs.cycling.Laws.{few, enough, stops, goes_on, too-late, in-time}
 use Rattle.key.specs.Turning.{turn_of}
-use Rattle.key.specs.declared.turning.Turned.{Turned}
+use Rattle.key.specs.Answer.{Turned}
 use Rattle.trace.specs.Tracing.{trace_number}
 use Rattle.tally.specs.Tallying.{tally_of}
-use Rattle.tally.specs.Weighing.{unbalanced_in, weigh_code, refused, weighed, weigh_of}
-use Rattle.tally.specs.declared.tallying.Tallied.{Tallied}
-use Rattle.tally.specs.declared.weighing.Weighed.{Weighed}
-use Rattle.tally.proofs.weighing.Laws.{weights-refused, balance-refused, accepted}
+use Rattle.tally.specs.Weighing.{unbalanced_in, weigh_code, weigh_of}
+use Rattle.tally.specs.Answer.{Tallied, Weighed}
 use Rattle.claims.proofs.Numbers.{record-each, read-each, start-each, cycle-each, key-each, tally-each, weigh-each, trace-each, start-code, start-reasons, cycle-code, key-code, key-refused, key-accepted, tally-code, weigh-code, tally-refused, weigh-refused, weigh-names, all-balanced, first-unbalanced, left_alone, front-written, rest-kept}
+use Rattle.claims.proofs.Tests.{weights-refused, balance-refused, weigh-accepted}
 use Rattle.claims.specs.Answers.{one_of, record_numbers, reading_numbers, chart_numbers, start_numbers, cycle_numbers, own_numbers, weighing_numbers, trace_numbers, Numbered, RecordAnswer, ReadingAnswer, StartAnswer, CycleAnswer, KeyAnswer, TallyAnswer, WeighingAnswer, TraceAnswer}
 
 pub numbered : Numbered
@@ -129,11 +128,11 @@ weighing-answers c weights =
     let many : ℕ = or_else (unless (eqb (length weights) c.steps) 13) fair in
     record {
       bad-chart = λ z. n ∙ sym (stops (chart_code c) many z);
-      wrong-weights = λ e z. ap (λ (o : Weighed). o.code) (sym (weights-refused c weights (refused 13 0) e z refl));
+      wrong-weights = λ e z. ap (λ (o : Weighed). o.code) (weights-refused c weights e z);
       unbalanced = λ e l t k h f.
-          let q = sym (balance-refused c weights (refused 14 (t + 1 - 1)) (t + 1) e l (first-unbalanced c weights t k h f) (λ z. omega arith) refl) in
-          (ap (λ (o : Weighed). o.code) q, ap (λ (o : Weighed). o.transition) q ∙ omega arith);
-      accepted = λ e l h. ap (λ (o : Weighed). o.code) (sym (accepted c weights (weighed c weights) e l (all-balanced c weights h) refl));
+          let q = balance-refused c weights e l t (sym (first-unbalanced c weights t k h f)) in
+          (ap (λ (o : Weighed). o.code) q, ap (λ (o : Weighed). o.transition) q);
+      accepted = λ e l h. ap (λ (o : Weighed). o.code) (weigh-accepted c weights e l (all-balanced c weights h));
       no-total = weigh-refused c weights;
       names-none = weigh-names c weights;
     }

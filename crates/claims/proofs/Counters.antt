@@ -16,7 +16,7 @@ use Rattle.run.specs.declared.run.StepCounter.{StepCounter}
 use Rattle.run.specs.declared.run.Run.{Run}
 use Rattle.passes.specs.Time.{elapsed, step_time, grown_count}
 use Rattle.cycle.specs.Cycling.{refused, cycled}
-use Rattle.cycle.specs.declared.cycling.Cycled.{Cycled}
+use Rattle.cycle.specs.Answer.{Cycled}
 use Rattle.key.specs.Turning.{mark_of, marked, turned_as}
 use Rattle.claims.specs.Editions.{target_in, Stepped}
 use Rattle.claims.proofs.Editions.{stepped}

@@ -16,7 +16,7 @@ use Rattle.passes.specs.Choosing.{moved_to, entered_by}
 use Rattle.passes.specs.Moving.{signals_of}
 use Rattle.passes.proofs.choosing.Laws.{stayed-run-on}
 use Rattle.cycle.specs.Cycling.{counts_at, choice_of, cycled}
-use Rattle.cycle.specs.declared.cycling.Cycled.{Cycled}
+use Rattle.cycle.specs.Answer.{Cycled}
 use Rattle.cycle.proofs.cycling.Laws.{cycle-passed}
 use Rattle.claims.proofs.Marks.{some_is}
 use Rattle.claims.specs.Moves.{Chosen}

@@ -14,11 +14,14 @@ pub mod Numbers
 pub mod Pages
 pub mod Pulses
 pub mod Reasons
+pub mod Results
 pub mod Runs
 pub mod Shifts
 pub mod Stored
 pub mod Sums
 pub mod Tally
+pub mod Tests
+pub mod Parts
 pub mod Texts
 pub mod Unique
 pub mod Weights

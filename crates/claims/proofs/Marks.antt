@@ -16,7 +16,7 @@ use Rattle.run.specs.Belongs.{belongs}
 use Rattle.run.specs.declared.run.Run.{Run}
 use Rattle.passes.specs.Moving.{signals_of, as_expected, marks_of}
 use Rattle.cycle.specs.Cycling.{refused, start_of, counts_at, choice_of, cycled}
-use Rattle.cycle.specs.declared.cycling.Cycled.{Cycled}
+use Rattle.cycle.specs.Answer.{Cycled}
 use Rattle.cycle.proofs.cycling.Kept.{cycle-keeps}
 use Rattle.key.specs.Turning.{mark_of, marked, turned_as}
 use Rattle.key.proofs.turning.Laws.{key-keeps}

@@ -16,7 +16,7 @@ use Rattle.reader.specs.Bodies.{body_at}
 use Rattle.reader.specs.Reading.{refused, accepted, closed, ended, with_body, number_in, taken, read_from, read_chart}
 use Rattle.judging.specs.declared.Body.{Body}
 use Rattle.judging.specs.declared.Body.TheVariants.{Step, Action, Transition, Block, Case, Edition}
-use Rattle.reader.specs.declared.reading.Reading.{Reading}
+use Rattle.reader.specs.Answer.{Reading}
 use Rattle.run.specs.Run.{no_run}
 use Rattle.run.specs.Belongs.{belongs, own_code}
 use Rattle.run.specs.declared.run.Run.{Run}
@@ -24,15 +24,14 @@ use Rattle.passes.specs.Time.{elapsed}
 use Rattle.passes.specs.Outputs.{outputs_of}
 use Rattle.cycle.specs.Cycling.{refused as turned-away, start_code, ready_code, late_code, cycle_code, started, start_of, cycled, cycle_of, outputs_after}
 use Rattle.passes.specs.Explaining.{no_reasons}
-use Rattle.cycle.specs.declared.cycling.Cycled.{Cycled}
+use Rattle.cycle.specs.Answer.{Cycled}
 use Rattle.passes.proofs.outputs.Laws.{outputs-length}
 use Rattle.trace.specs.Tracing.{is_over, record_fits, trace_number}
 use Rattle.key.specs.Turning.{mark_of, marked, turned_as, turn_of}
-use Rattle.key.specs.declared.turning.Turned.{Turned}
+use Rattle.key.specs.Answer.{Turned}
 use Rattle.tally.specs.Tallying.{counts_of, refused as uncounted, tally_of}
 use Rattle.tally.specs.Weighing.{balanced, unbalanced, unbalanced_in, weigh_code, refused as unweighed, weighed, weigh_of}
-use Rattle.tally.specs.declared.tallying.Tallied.{Tallied}
-use Rattle.tally.specs.declared.weighing.Weighed.{Weighed}
+use Rattle.tally.specs.Answer.{Tallied, Weighed}
 use Rattle.claims.proofs.Runs.{each_start}
 
 -- ---- an answer by its number

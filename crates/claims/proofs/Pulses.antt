@@ -15,9 +15,9 @@ use Rattle.acting.specs.declared.Steps.{Steps}
 use Rattle.acting.specs.declared.Request.{Request}
 use Rattle.run.specs.declared.run.Run.{Run}
 use Rattle.cycle.specs.Cycling.{start_of, cycle_of, outputs_after}
-use Rattle.cycle.specs.declared.cycling.Cycled.{Cycled}
+use Rattle.cycle.specs.Answer.{Cycled}
 use Rattle.key.specs.Turning.{turn_of}
-use Rattle.key.specs.declared.turning.Turned.{Turned}
+use Rattle.key.specs.Answer.{Turned}
 use Rattle.claims.specs.Runs.{Call, cycle, turn, answer, after}
 use Rattle.claims.specs.Pulses.{as_p1, qualified, with_p1, Alike}
 

@@ -7,7 +7,7 @@ use Rattle.run.specs.Run.{no_run}
 use Rattle.run.specs.Belongs.{own_code}
 use Rattle.run.specs.declared.run.Run.{Run}
 use Rattle.cycle.specs.Cycling.{refused, start_code, cycle_code, started, start_of, cycled}
-use Rattle.cycle.specs.declared.cycling.Cycled.{Cycled}
+use Rattle.cycle.specs.Answer.{Cycled}
 use Rattle.key.specs.Turning.{mark_of, marked, turned_as}
 use Rattle.claims.specs.Runs.{Cycle, Call, cycle, turn, keyed, answer}
 

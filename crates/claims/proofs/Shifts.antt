@@ -14,7 +14,7 @@ use Rattle.chart.proofs.held.Each.{either, else-each}
 use Rattle.chart.proofs.held.Sound.{fits}
 use Rattle.run.specs.declared.run.Run.{Run}
 use Rattle.cycle.specs.Cycling.{ready_code, start_of, cycle_on, outputs_after}
-use Rattle.cycle.specs.declared.cycling.Cycled.{Cycled}
+use Rattle.cycle.specs.Answer.{Cycled}
 use Rattle.cycle.proofs.cycling.Laws.{passed as ready-passed}
 use Rattle.cycle.proofs.cycling.Tested.{outputs-long}
 use Rattle.cycle.specs.Calling.{Calls, called, onward, singly}

@@ -26,7 +26,7 @@ use Rattle.passes.specs.Explaining.{no_reasons}
 use Rattle.passes.specs.Choosing.{steps_of}
 use Rattle.passes.specs.Moving.{signals_of}
 use Rattle.cycle.specs.Cycling.{accepted, refused, reasons_in, start_steps, settled, acted_on, counts_at, times_at, choice_of, marks_at, start_of, cycled}
-use Rattle.cycle.specs.declared.cycling.Cycled.{Cycled}
+use Rattle.cycle.specs.Answer.{Cycled}
 use Rattle.claims.specs.Counters.{counter_in}
 use Rattle.claims.proofs.Marks.{start-passes}
 use Rattle.claims.specs.Runs.{Cycle, Call, answer, after, begun}

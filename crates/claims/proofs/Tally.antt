@@ -12,10 +12,10 @@ use Rattle.chart.specs.declared.chart.Chart.{Chart}
 use Rattle.run.specs.declared.run.Run.{Run}
 use Rattle.cycle.specs.Cycling.{start_of}
 use Rattle.cycle.proofs.cycling.Kept.{start-belongs}
-use Rattle.tally.specs.Tallying.{is_passed, is_failed, is_not_run, counts_of, tally_of}
-use Rattle.tally.proofs.tallying.Laws.{accepted}
+use Rattle.tally.specs.Tallying.{is_passed, is_failed, is_not_run, tally_of}
 use Rattle.claims.specs.Runs.{Call, answer, after, begun}
 use Rattle.claims.specs.Marks.{Unmarked}
+use Rattle.claims.proofs.Tests.{tally-accepted}
 use Rattle.claims.proofs.Marks.{only-good, neither, marks, start-passes, start-unmarked, after-belongs}
 use Rattle.claims.specs.Tally.{ran_in, fine_in, ever, always, has_passed, has_failed, never_ran, tallied, Case}
 
@@ -77,7 +77,7 @@ tally-counts c clock lent e xs =
     let r = begun c clock lent in
     let m = after c r xs in
     let is = case-is c clock lent e xs in
-    sym (accepted c m (counts_of c.cases m.good m.bad) (start-passes c clock lent e) (after-belongs c r xs (start-belongs c clock lent e)) refl)
+    tally-accepted c m (start-passes c clock lent e) (after-belongs c r xs (start-belongs c clock lent e))
     ∙ rw (
       counted_same (is_passed m.good m.bad) (has_passed c r xs) c.cases (λ i l. (is i l).passed),
       counted_same (is_failed m.good m.bad) (has_failed c r xs) c.cases (λ i l. (is i l).failed),

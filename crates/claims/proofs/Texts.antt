@@ -10,7 +10,7 @@ use Rattle.chart.specs.Held.{limits_fit, step_fits_at, steps_code, action_fits_a
 use Rattle.chart.specs.declared.chart.Chart.{Chart}
 use Rattle.chart.proofs.held.Each.{either, else-each, transition-each}
 use Rattle.reader.specs.Reading.{refused, accepted, closed, with_body}
-use Rattle.reader.specs.declared.reading.Reading.{Reading}
+use Rattle.reader.specs.Answer.{Reading}
 use Rattle.forms.specs.Form.{Tree, both, text_of, Stops}
 use Rattle.grammar.specs.Grammar.{text}
 use Rattle.grammar.specs.Meaning.{Said, a_step, a_block, a_transition, text_says}

@@ -1,173 +1,221 @@
 -- What is proved of specs/Unique.antt.
-use Rattle.std.specs.Prelude.{ℕ, min, true, false}
-use Rattle.std.proofs.Common.{ap₂}
-use Rattle.sets.proofs.Unique.{is-in-unique, is-within-unique, is-apart-unique, names-below-unique, joined-unique, common-unique, without-unique, with-unique, with-if-unique, is-in-mod-unique, with-if-mod-unique, beyond-unique, first-unique, without-first-unique, size-unique}
-use Rattle.fields.proofs.Unique.{is-timed-unique, or-else-unique, unless-unique, kind-fits-unique, step-fits-unique, action-fits-unique, transition-passes-unique, transition-code-unique, duration-fits-unique, block-fits-unique, case-fits-unique, edition-fits-unique, is-second-unique}
-use Rattle.chart.proofs.Unique.{at-most-unique, index-of-unique, closing-code-unique, held-code-unique, chart-code-unique, initial-of-unique}
-use Rattle.judging.specs.declared.Body.TheVariants.{Step, Action, Transition, Block, Case, Edition}
-use Rattle.judging.proofs.Unique.{body-code-unique}
+use Rattle.std.specs.Prelude.{ℕ, ◌+◌, min, List, ◌++◌, ◌≡◌, ℤ, length}
+use Rattle.std.proofs.Common.{sym, ap, ap₂, ◌∙◌}
+use Rattle.sets.proofs.Unique.{one_answer}
+use Rattle.reader.specs.Answer.{Reading}
 use Rattle.reader.proofs.framing.Laws.{record-at-unique}
-use Rattle.reader.proofs.Unique.{from-unique, signed-unique, bits-of-unique, read-chart-unique, read-into-unique}
-use Rattle.choice.proofs.Unique.{choose-one-unique, explain-unique, hold-all-unique}
-use Rattle.index.proofs.Unique.{index-of-unique as built-unique, tolwaziho-index-unique, index-after-unique, consulted-unique}
+use Rattle.index.specs.Answer.{Indexed}
+use Rattle.index.specs.Building.{indexed_as}
 use Rattle.acting.specs.Acting.{asked, acted}
-use Rattle.acting.proofs.Unique.{asks-unique, put-unique, act-unique}
-use Rattle.run.specs.Apart.{run_of}
-use Rattle.run.proofs.Unique.{parts-belong-unique, own-code-unique, counter-longer-unique, timer-longer-unique, no-run-unique, words-of-unique, put-words-unique, counts-of-unique, times-of-unique, run-of-unique}
+use Rattle.acting.specs.declared.Acted.{Acted}
+use Rattle.run.specs.Apart.{words_of}
+use Rattle.passes.specs.Outputs.{written}
 use Rattle.passes.specs.Rests.{rests}
+use Rattle.cycle.specs.Answer.{Cycled}
+use Rattle.cycle.specs.Cycling.{start_of, cycle_of, cycle_by, outputs_after}
 use Rattle.cycle.specs.Stepping.{all_kept}
-use Rattle.passes.proofs.Unique.{elapsed-unique, step-time-unique, choose-unique, choose-from-unique, steps-of-unique, signals-of-unique, marks-of-unique, ask-blocks-unique, write-outputs-unique, explain-unique as call-explain-unique, keep-if-unique}
-use Rattle.cycle.proofs.Unique.{ready-code-unique}
-use Rattle.stepping.proofs.Unique.{settle-unique, cycles-on-unique}
-use Rattle.calls.proofs.Unique.{start-unique, cycle-unique, cycle-by-unique, start-on-unique}
-use Rattle.key.proofs.Unique.{turn-unique}
-use Rattle.shift.proofs.Unique.{lists-code-unique, clocks-taken-unique, shift-unique, shift-by-unique}
-use Rattle.trace.proofs.Unique.{call-at-unique}
-use Rattle.tally.proofs.Unique.{tally-unique, weigh-unique, weight-in-unique}
-use Rattle.writer.proofs.Unique.{write-chart-unique}
-use Rattle.report.proofs.Unique.{opening-unique, print-next-unique}
-use Rattle.adding.proofs.Unique.{add-after-unique, add-unique, tolwaziho-add-unique}
-use Rattle.lines.proofs.Unique.{digit-unique, put-unique as put-bytes-unique, put-decimal-unique, put-word-unique, put-named-unique, put-line-unique, chart-line-unique}
-use Rattle.weights.proofs.Unique.{says-unique, list-unique}
-use Rattle.page.proofs.Unique.{page-line-unique}
-use Rattle.claims.specs.Unique.{Unique}
+use Rattle.calls.specs.Starting.{begun}
+use Rattle.adding.specs.Adding.{added_as}
+use Rattle.adding.specs.Answer.{Added}
+use Rattle.lines.specs.Lines.{text, hex, decimal, named_line, chart_line, Puts}
+use Rattle.page.specs.Page.{page_line}
+use Rattle.claims.specs.Older.{Read, Tables, Listed}
+use Rattle.claims.specs.Unique.{Both, Unique}
+
+-- an answer, and what is lent with it
+pub with_it : {A B : Type 0} (h : A → B) (x : A) → Both (λ (r : A) (exit : B). (r ≡ x) × (exit ≡ h r))
+with_it h x r q f g e k = let same = one_answer e.0 k.0 in (same, e.1 ∙ ap h same ∙ sym k.1)
+
+-- whatever is put, and whatever the room
+pub puts : (room : ℕ) (line : List ℕ) (at : ℕ) (t : List ℕ) → Both (λ (r : ℕ) (exit : List ℕ). Puts room line at t exit r)
+puts room line at t r q f g e h = (one_answer e.1 h.1, one_answer e.0 h.0)
+
+-- a reading taken apart: the answer beside the tables, and the tables
+abbrev answer_of : Reading → Read
+answer_of r = let c = r.chart in record {
+  code = r.code;
+  place = r.place;
+  steps = c.steps;
+  actions = c.actions;
+  transitions = c.transitions;
+  blocks = c.blocks;
+  cases = c.cases;
+  edition = c.edition;
+}
+
+abbrev tables_of : Reading → Tables
+tables_of r = let c = r.chart in (c.initial, c.output, c.value, c.sources, c.targets, c.on, c.off, c.wait, c.blockstep, c.blockaction, c.qualifier, c.duration, c.casestep, c.signal, c.expected)
 
 pub unique : Unique
 unique = record {
   sets = record {
-    is-in = is-in-unique;
-    is_within = is-within-unique;
-    is-apart = is-apart-unique;
-    names-below = names-below-unique;
-    joined = joined-unique;
-    common = common-unique;
-    without = without-unique;
-    with = with-unique;
-    with-if = with-if-unique;
-    is-in-mod = is-in-mod-unique;
-    with-if-mod = with-if-mod-unique;
-    beyond = beyond-unique;
-    without-first = without-first-unique;
-    first = first-unique;
-    size = size-unique;
+    is-in = λ s k r q. one_answer;
+    is_within = λ a b r q. one_answer;
+    is-apart = λ a b r q. one_answer;
+    names-below = λ s n r q. one_answer;
+    joined = λ a b r q. one_answer;
+    common = λ a b r q. one_answer;
+    without = λ a b r q. one_answer;
+    with = λ s k r q. one_answer;
+    with-if = λ s k b r q. one_answer;
+    is-in-mod = λ s k r q. one_answer;
+    with-if-mod = λ s k b r q. one_answer;
+    beyond = λ n r q. one_answer;
+    without-first = λ s r q. one_answer;
+    first = λ s r q. one_answer;
+    size = λ s r q. one_answer;
   };
   fields = record {
-    is-timed = is-timed-unique;
-    or-else = or-else-unique;
-    unless = unless-unique;
-    kind_fits = kind-fits-unique;
-    step_fits = step-fits-unique;
-    action-fits = action-fits-unique;
-    transition-passes = transition-passes-unique;
-    transition-code = transition-code-unique;
-    duration-fits = duration-fits-unique;
-    block-fits = block-fits-unique;
-    case-fits = case-fits-unique;
-    edition-fits = edition-fits-unique;
-    is-second = is-second-unique;
+    is-timed = λ qualifier r q. one_answer;
+    or-else = λ a b r q. one_answer;
+    unless = λ ok code r q. one_answer;
+    kind_fits = λ kind before r q. one_answer;
+    step_fits = λ initial r q. one_answer;
+    action-fits = λ output r q. one_answer;
+    transition-passes = λ steps actions sources targets on off wait r q. one_answer;
+    transition-code = λ steps actions sources targets on off wait r q. one_answer;
+    duration-fits = λ qualifier duration r q. one_answer;
+    block-fits = λ steps actions step action qualifier duration r q. one_answer;
+    case-fits = λ steps actions step signal expected r q. one_answer;
+    edition-fits = λ edition r q. one_answer;
+    is-second = λ edition r q. one_answer;
   };
   chart = record {
-    at_most = at-most-unique;
-    index_of = index-of-unique;
-    closing-code = closing-code-unique;
-    held-code = held-code-unique;
-    chart-code = chart-code-unique;
-    initial-of = initial-of-unique;
+    at_most = λ n table r q. one_answer;
+    index_of = λ x r q e h. one_answer e.0 h.0;
+    closing-code = λ steps blocks initial blockaction qualifier r q. one_answer;
+    held-code = λ steps actions transitions blocks cases initial output sources targets on off wait blockstep blockaction qualifier duration casestep signal expected edition r q. one_answer;
+    chart-code = λ chart r q. one_answer;
+    initial-of = λ n initial r q. one_answer;
   };
   judging = record {
-    step-code = λ steps initial. body-code-unique steps 0 0 0 0 0 (Step initial);
-    action-code = λ actions output value. body-code-unique 0 actions 0 0 0 0 (Action output value);
-    transition-code = λ steps actions transitions sources targets on off wait. body-code-unique steps actions transitions 0 0 0 (Transition sources targets on off wait);
-    block-code = λ steps actions blocks step action qualifier duration. body-code-unique steps actions 0 blocks 0 0 (Block step action qualifier duration);
-    case-code = λ steps actions cases step signal expected. body-code-unique steps actions 0 0 cases 0 (Case step signal expected);
-    edition-code = λ edition byte. body-code-unique 0 0 0 0 0 edition (Edition byte);
+    step-code = λ steps initial r q. one_answer;
+    action-code = λ actions output value r q. one_answer;
+    transition-code = λ steps actions transitions sources targets on off wait r q. one_answer;
+    block-code = λ steps actions blocks step action qualifier duration r q. one_answer;
+    case-code = λ steps actions cases step signal expected r q. one_answer;
+    edition-code = λ edition byte r q. one_answer;
   };
   reader = record {
     record-at = record-at-unique;
-    u16-from = from-unique 2;
-    u32-from = from-unique 4;
-    signed = signed-unique;
-    bits_of = bits-of-unique;
-    read-chart = read-chart-unique;
-    read-into = read-into-unique;
+    u16-from = λ bytes at r q. one_answer;
+    u32-from = λ bytes at r q. one_answer;
+    signed = λ x r q. one_answer;
+    bits_of = λ v r q. one_answer;
+    read-chart = λ bytes r q. one_answer;
+    read-into = λ bytes r q f g e h. let same = one_answer e h in (ap answer_of same, ap tables_of same);
   };
-  choice = record { choose_one = choose-one-unique; explain = explain-unique; hold-all = hold-all-unique };
-  index = record { index_of = built-unique; tolwaziho-index = tolwaziho-index-unique; index-after = λ held n sources index r q a b. index-after-unique held n sources index r q a.0 b.0; consulted = consulted-unique };
-  acting = record { asks = asks-unique; put = put-unique; act = act-unique };
+  choice = record {
+    choose_one = λ edition choice t sources targets on off wait counts active signals r q. one_answer;
+    explain = λ edition n sources targets on off wait counts active signals r q. one_answer;
+    hold-all = λ n r q. one_answer;
+  };
+  index = record {
+    index_of = λ chart r q. one_answer;
+    tolwaziho-index = λ held transitions sources r q f g e h.
+        let same : indexed_as r f ≡ indexed_as q g = one_answer e h in
+        (ap (λ (x : Indexed). x.code) same, ap (λ (x : Indexed). x.leaving) same);
+    index-after = λ held n sources index r q e h. one_answer e.0 h.0;
+    consulted = λ n index active r q. one_answer;
+  };
+  acting = record {
+    asks = λ qualifier duration step action counts times steps r q. one_answer;
+    put = λ asked action r x y. one_answer;
+    act = λ asked stored latched r q. one_answer;
+  };
   run = record {
-    StepCounter-longer = λ self e. counter-longer-unique e self;
-    ActionTimer-longer = λ self e. timer-longer-unique e self;
-    no-run = no-run-unique;
-    parts-belong = λ words counts times steps actions cases r q a b. parts-belong-unique words counts times steps actions cases r q a.0 b.0;
-    own_code = λ held words counts times steps actions cases r q a b. own-code-unique held steps actions cases (run_of words counts times) r q a.0 b.0;
-    words-of = words-of-unique;
-    put-words = put-words-unique;
-    counts_of = λ counters r q a b. counts-of-unique counters r q a.0 b.0;
-    times-of = λ timers r q a b. times-of-unique timers r q a.0 b.0;
-    run-of = run-of-unique;
+    StepCounter-longer = λ self e r q. one_answer;
+    ActionTimer-longer = λ self e r q. one_answer;
+    no-run = λ r q. one_answer;
+    parts-belong = λ words counts times steps actions cases r q e h. one_answer e.0 h.0;
+    own_code = λ held words counts times steps actions cases r q e h. one_answer e.0 h.0;
+    words-of = λ run r q. one_answer;
+    put-words = λ words r q. one_answer;
+    counts_of = λ counters r q e h. one_answer e.0 h.0;
+    times-of = λ timers r q e h. one_answer e.0 h.0;
+    run-of = λ words counts times r q. one_answer;
   };
   passes = record {
-    elapsed = elapsed-unique;
-    step-time = step-time-unique;
-    choose = λ hold edition n. choose-unique hold edition (min n 64);
-    choose-from = choose-from-unique;
-    steps-of = steps-of-unique;
-    signals-of = signals-of-unique;
-    marks-of = λ n step signal. marks-of-unique (min n 64) (rests 64 step) (rests 64 signal);
-    ask-blocks = λ n blockstep blockaction. ask-blocks-unique (min n 256) (rests 64 blockstep) (rests 32 blockaction);
-    write-outputs = λ outputs n output value activity. write-outputs-unique (min n 32) (rests 32 output) value activity outputs;
-    explain = λ edition n sources targets on off wait words counts. call-explain-unique edition n sources targets on off wait counts words;
-    keep-if = keep-if-unique;
+    step-time = λ hold e r q. one_answer;
+    choose = λ hold edition n sources targets on off wait counts active signals r q. one_answer;
+    choose-from = λ edition consulted sources targets on off wait counts active signals r q. one_answer;
+    steps-of = λ active choice r q. one_answer;
+    signals-of = λ inputs activity r q. one_answer;
+    marks-of = λ n step signal expected left signals r q. one_answer;
+    ask-blocks = λ n blockstep blockaction qualifier duration counts times steps r q. one_answer;
+    write-outputs = λ outputs n output value activity r q. one_answer;
+    explain = λ edition n sources targets on off wait words counts clock inputs r q. one_answer;
+    keep-if = λ code reasons r q. one_answer;
+    elapsed = λ last new r q. one_answer;
   };
   cycle = record {
-    ready-code = λ held steps actions cases words counts times outputs r q a b. ready-code-unique held steps actions cases (run_of words counts times) outputs r q a.0 b.0;
+    ready-code = λ held steps actions cases words counts times outputs r q e h. one_answer e.0 h.0;
   };
   stepping = record {
-    settle = λ outputs actions output value blocks blockstep blockaction qualifier duration counts times steps stored latched r q f g a b.
-        settle-unique (acted (asked (min blocks 256) (rests 64 blockstep) (rests 32 blockaction) qualifier duration counts times (all_kept steps)) stored latched)
-        (min actions 32) (rests 32 output) value r q outputs f g a.0 b.0 a.1 b.1;
-    cycles-on = λ lent index words counts times. cycles-on-unique lent index (run_of words counts times);
+    settle = λ outputs actions output value blocks blockstep blockaction qualifier duration counts times steps stored latched.
+        with_it (λ (x : Acted). written (min actions 32) (rests 32 output) value x.activity outputs)
+        (acted (asked (min blocks 256) (rests 64 blockstep) (rests 32 blockaction) qualifier duration counts times (all_kept steps)) stored latched);
+    cycles-on = λ lent index words counts times clocks inputs activities outputs r q. one_answer;
   };
   calls = record {
-    start = λ chart clock outputs r q f g a b. start-unique chart clock r q outputs f g a.0 b.0 a.1 b.1;
-    cycle = λ chart run clock inputs outputs r q f g a b. cycle-unique chart run clock inputs r q outputs f g a.0 b.0 a.1 b.1;
-    cycle-by = λ chart index run clock inputs outputs r q f g a b. cycle-by-unique chart index run clock inputs r q outputs f g a.0 b.0 a.1 b.1;
-    start-on = start-on-unique;
+    start = λ chart clock outputs. with_it (λ (o : Cycled). outputs_after chart o outputs) (start_of chart clock (length outputs));
+    cycle = λ chart run clock inputs outputs. with_it (λ (o : Cycled). outputs_after chart o outputs) (cycle_of chart run clock inputs (length outputs));
+    cycle-by = λ chart index run clock inputs outputs. with_it (λ (o : Cycled). outputs_after chart o outputs) (cycle_by chart index run clock inputs (length outputs));
+    start-on = λ lent clock outputs r q f g e h.
+        let same : ◌≡◌ {A = Cycled × List ℤ} (begun r, f) (begun q, g) = one_answer e h in
+        (ap (λ (p : Cycled × List ℤ). record { code = p.0.code; words = words_of p.0.run }) same, ap (λ (p : Cycled × List ℤ). p.1) same);
   };
-  key = record { hold = turn-unique true; release = turn-unique false; turn = turn-unique };
+  key = record {
+    hold = λ chart run r q. one_answer;
+    release = λ chart run r q. one_answer;
+    turn = λ held lent run r q. one_answer;
+  };
   shift = record {
-    lists-code = lists-code-unique;
-    clocks-taken = λ code clocks r q a b. clocks-taken-unique code clocks r q a.0 b.0;
-    shift = shift-unique;
-    shift-by = shift-by-unique;
+    lists-code = λ clocks inputs words r q. one_answer;
+    clocks-taken = λ code clocks r q e h. one_answer e.0 h.0;
+    shift = λ chart run clocks inputs words outputs r q. one_answer;
+    shift-by = λ chart index run clocks inputs words outputs r q. one_answer;
   };
-  trace = record { call-at = call-at-unique };
+  trace = record {
+    call-at = λ trace at r q e h. one_answer e.0 h.0;
+  };
   tally = record {
-    tally-on = λ lent words counts times. tally-unique lent (run_of words counts times);
-    tally = tally-unique;
-    weigh-on = weigh-unique;
-    weigh = weigh-unique;
-    weight-in = weight-in-unique;
+    tally-on = λ lent words counts times r q. one_answer;
+    tally = λ chart run r q. one_answer;
+    weigh-on = λ lent weights r q. one_answer;
+    weigh = λ chart weights r q. one_answer;
+    weight-in = λ set weights r q. one_answer;
   };
   adding = record {
-    add-after = λ held n first second sum r q f g. add-after-unique held n first second sum f g r q;
-    add = λ chart first second sum r q f g. add-unique chart first second sum f g r q;
-    tolwaziho-add = λ held steps first second sum r q f g a b. let u = tolwaziho-add-unique held steps first second sum f g r.0 q.0 r.1 q.1 a b in (ap₂ (λ (x y : ℕ). (x, y)) u.0 u.1, u.2);
+    add-after = λ held n first second sum r q f g e h. (one_answer e.0 h.0, one_answer e.1 h.1);
+    add = λ chart first second sum r q f g e h. (one_answer e.0 h.0, one_answer e.1 h.1);
+    tolwaziho-add = λ held steps first second sum r q f g e h.
+        let same : added_as r.0 r.1 ≡ added_as q.0 q.1 = one_answer e.0 h.0 in
+        (ap₂ (λ (x y : ℕ). (x, y)) (ap (λ (x : Added). x.code) same) (ap (λ (x : Added). x.step) same), one_answer e.1 h.1);
   };
-  writer = record { write-on = write-chart-unique; write-chart = write-chart-unique };
-  lines = record {
-    digit = digit-unique;
-    put = put-bytes-unique;
-    put-decimal = put-decimal-unique;
-    put_word = put-word-unique;
-    put-named = put-named-unique;
-    put-line = put-line-unique;
-    chart-line = chart-line-unique;
+  writer = record {
+    write-on = λ lent bytes r q. one_answer;
+    write-chart = λ chart bytes r q. one_answer;
   };
   report = record {
-    opening = opening-unique;
-    print-next = λ code chart trace standing line r q f g. print-next-unique code chart trace standing line f g r q;
+    opening = λ r q. one_answer;
+    print-next = λ code chart trace standing line r q f g e h. (one_answer e.0 h.0, one_answer e.1 h.1);
   };
-  weights = record { says = says-unique; list = λ text weights r q f g. list-unique text weights f g r q };
-  page = record { page-line = λ heard n sources targets initial weights k line r q f g. page-line-unique heard n sources targets initial weights k line f g r q };
+  lines = record {
+    digit = λ n r q. one_answer;
+    put = λ line at bytes. puts (length bytes) line at bytes;
+    put-decimal = λ line at n. puts 20 line at (decimal n);
+    put_word = λ line at k n. puts (k + 1) line at (text " " ++ hex k n);
+    put-named = λ line at name n. puts (length name + 20) line at (name ++ decimal n);
+    put-line = λ line at name n. puts (length name + 21) line at (named_line name n);
+    chart-line = λ line at code. puts 35 line at (chart_line code);
+  };
+  weights = record {
+    says = λ line r q. one_answer;
+    list = λ text weights r q f g e h.
+        (ap₂ {C = Listed} (λ (x y : ℕ). record { fault = x; count = y }) (one_answer e.0 h.0) (one_answer e.1.1 h.1.1), one_answer e.1.0 h.1.0);
+  };
+  page = record {
+    page-line = λ heard n sources targets initial weights k line r q f g e h. puts 512 line 0 (page_line heard n sources targets initial weights k) r q f g e.0 h.0;
+  };
 }

@@ -13,9 +13,9 @@ use Rattle.chart.specs.Held.{chart_code}
 use Rattle.chart.specs.declared.chart.Chart.{Chart}
 use Rattle.run.specs.declared.run.Run.{Run}
 use Rattle.cycle.specs.Cycling.{start_of}
-use Rattle.cycle.specs.declared.cycling.Cycled.{Cycled}
+use Rattle.cycle.specs.Answer.{Cycled}
 use Rattle.tally.specs.Weighing.{weight, weight_in, balanced, unbalanced, unbalanced_in, weigh_code, refused, weigh_of}
-use Rattle.tally.specs.declared.weighing.Weighed.{Weighed}
+use Rattle.tally.specs.Answer.{Weighed}
 use Rattle.claims.specs.AtLeast.{AtLeast}
 use Rattle.claims.proofs.AtLeast.{same, then, sum-ledger, times}
 use Rattle.claims.specs.Fair.{Fair}

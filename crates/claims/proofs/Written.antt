@@ -14,7 +14,7 @@ use Rattle.reader.proofs.reading.Accepted.{read-accepted}
 use Rattle.cycle.proofs.cycling.Laws.{stops, goes_on}
 use Rattle.writer.specs.Writing.{file_of, write_code, wrote, refused, write_chart}
 use Rattle.writer.specs.Back.{Bytes}
-use Rattle.writer.specs.declared.writing.Writing.{Writing}
+use Rattle.writer.specs.Answer.{Writing}
 use Rattle.writer.proofs.ReadBack.{read-file}
 use Rattle.writer.proofs.WriteBack.{write-file}
 use Rattle.writer.proofs.writing.Laws.{file-length}

@@ -3,7 +3,7 @@ use Rattle.std.specs.Prelude.{ℕ, ◌≤◌, ◌<◌, List, ◌≡◌, length}
 use Rattle.chart.specs.Held.{chart_code}
 use Rattle.chart.specs.declared.chart.Chart.{Chart}
 use Rattle.adding.specs.Adding.{sum_at, added_as}
-use Rattle.adding.specs.declared.adding.Added.{Added}
+use Rattle.adding.specs.Answer.{Added}
 
 -- ---- the four ways
 

@@ -6,7 +6,7 @@ use Rattle.chart.specs.Held.{chart_code}
 use Rattle.chart.specs.declared.chart.Chart.{Chart}
 use Rattle.tally.specs.Weighing.{weigh_of}
 use Rattle.adding.specs.Adding.{added_as, add_of, sum_of}
-use Rattle.adding.specs.declared.adding.Added.{Added}
+use Rattle.adding.specs.Answer.{Added}
 use Rattle.claims.specs.Answers.{one_of, chart_numbers}
 
 -- ---- the numbers, which test decides, and what is written

@@ -9,7 +9,7 @@ use Rattle.chart.specs.Held.{chart_code}
 use Rattle.chart.specs.declared.chart.Chart.{Chart}
 use Rattle.reader.specs.Framing.{length_at, kind_at, body_length, record_number}
 use Rattle.reader.specs.Reading.{read_chart}
-use Rattle.reader.specs.declared.reading.Reading.{Reading}
+use Rattle.reader.specs.Answer.{Reading}
 use Rattle.run.specs.Run.{no_run}
 use Rattle.run.specs.Belongs.{belongs}
 use Rattle.run.specs.declared.run.Run.{Run}
@@ -17,14 +17,13 @@ use Rattle.passes.specs.Time.{elapsed}
 use Rattle.passes.specs.Outputs.{outputs_of}
 use Rattle.cycle.specs.Cycling.{start_of, cycle_of, outputs_after}
 use Rattle.passes.specs.Explaining.{no_reasons}
-use Rattle.cycle.specs.declared.cycling.Cycled.{Cycled}
+use Rattle.cycle.specs.Answer.{Cycled}
 use Rattle.key.specs.Turning.{mark_of, marked, turn_of}
-use Rattle.key.specs.declared.turning.Turned.{Turned}
+use Rattle.key.specs.Answer.{Turned}
 use Rattle.trace.specs.Tracing.{record_fits, trace_number}
 use Rattle.tally.specs.Tallying.{tally_of}
 use Rattle.tally.specs.Weighing.{balanced, weigh_of}
-use Rattle.tally.specs.declared.tallying.Tallied.{Tallied}
-use Rattle.tally.specs.declared.weighing.Weighed.{Weighed}
+use Rattle.tally.specs.Answer.{Tallied, Weighed}
 
 -- ---- the numbers
 

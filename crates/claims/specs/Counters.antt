@@ -7,7 +7,7 @@ use Rattle.chart.specs.declared.chart.Chart.{Chart}
 use Rattle.run.specs.Run.{counter, longest}
 use Rattle.run.specs.declared.run.Run.{Run}
 use Rattle.passes.specs.Time.{elapsed, step_time}
-use Rattle.cycle.specs.declared.cycling.Cycled.{Cycled}
+use Rattle.cycle.specs.Answer.{Cycled}
 use Rattle.claims.specs.Editions.{target_in}
 use Rattle.claims.specs.Runs.{Call, answer, Cycle, cycle, after, begun}
 use Rattle.claims.specs.Tally.{left_in, ever}

@@ -12,7 +12,7 @@ use Rattle.run.specs.Run.{counter}
 use Rattle.run.specs.declared.run.Run.{Run}
 use Rattle.passes.specs.Choosing.{entered_by}
 use Rattle.cycle.specs.Cycling.{counts_at}
-use Rattle.cycle.specs.declared.cycling.Cycled.{Cycled}
+use Rattle.cycle.specs.Answer.{Cycled}
 use Rattle.claims.specs.Runs.{Cycle}
 use Rattle.claims.specs.Tally.{left_in}
 

@@ -4,7 +4,7 @@ use Rattle.sets.specs.Sets.{has}
 use Rattle.chart.specs.Initial.{initial_set}
 use Rattle.chart.specs.declared.chart.Chart.{Chart}
 use Rattle.run.specs.declared.run.Run.{Run}
-use Rattle.cycle.specs.declared.cycling.Cycled.{Cycled}
+use Rattle.cycle.specs.Answer.{Cycled}
 use Rattle.claims.specs.AtLeast.{AtLeast}
 use Rattle.claims.specs.Moves.{among}
 use Rattle.claims.specs.Runs.{one}

@@ -11,7 +11,7 @@ use Rattle.run.specs.Apart.{counts_of}
 use Rattle.run.specs.declared.run.Run.{Run}
 use Rattle.passes.specs.Time.{elapsed, grown_time}
 use Rattle.cycle.specs.Cycling.{acted_on, times_at}
-use Rattle.cycle.specs.declared.cycling.Cycled.{Cycled}
+use Rattle.cycle.specs.Answer.{Cycled}
 use Rattle.claims.specs.Runs.{Cycle}
 use Rattle.run.specs.Belongs.{belongs}
 

@@ -8,7 +8,7 @@ use Rattle.sets.specs.Sets.{has, Within}
 use Rattle.chart.specs.Held.{chart_code}
 use Rattle.chart.specs.declared.chart.Chart.{Chart}
 use Rattle.index.specs.Building.{indexed_as, built_of}
-use Rattle.index.specs.declared.building.Indexed.{Indexed}
+use Rattle.index.specs.Answer.{Indexed}
 use Rattle.run.specs.declared.run.Run.{Run}
 use Rattle.choice.specs.Choice.{chosen_from, held}
 use Rattle.cycle.specs.Cycling.{refused, choice_of, why_in, cycle_of, cycle_by}

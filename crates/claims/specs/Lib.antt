@@ -10,9 +10,11 @@ pub mod Indexes
 pub mod Ledger
 pub mod Marks
 pub mod Moves
+pub mod Older
 pub mod Pages
 pub mod Pulses
 pub mod Reasons
+pub mod Results
 pub mod Runs
 pub mod Shifts
 pub mod Stored

@@ -10,7 +10,7 @@ use Rattle.run.specs.declared.run.Run.{Run}
 use Rattle.passes.specs.Moving.{signals_of}
 use Rattle.cycle.specs.Cycling.{counts_at}
 use Rattle.passes.specs.Explaining.{no_reasons}
-use Rattle.cycle.specs.declared.cycling.Cycled.{Cycled}
+use Rattle.cycle.specs.Answer.{Cycled}
 use Rattle.claims.specs.Runs.{Cycle}
 
 -- P holds of every member of the set s

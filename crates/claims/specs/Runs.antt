@@ -5,9 +5,9 @@ use Rattle.chart.specs.declared.chart.Chart.{Chart}
 use Rattle.run.specs.declared.run.Run.{Run}
 use Rattle.passes.specs.Explaining.{no_reasons}
 use Rattle.cycle.specs.Cycling.{start_of, cycle_of}
-use Rattle.cycle.specs.declared.cycling.Cycled.{Cycled}
+use Rattle.cycle.specs.Answer.{Cycled}
 use Rattle.key.specs.Turning.{turn_of}
-use Rattle.key.specs.declared.turning.Turned.{Turned}
+use Rattle.key.specs.Answer.{Turned}
 
 -- one cycle: the clock, the inputs, and how many outputs are lent
 pub record Cycle : Type 0 where

@@ -10,7 +10,7 @@ use Rattle.sets.specs.Sets.{has}
 use Rattle.fields.specs.Fields.{R, S, DS}
 use Rattle.chart.specs.declared.chart.Chart.{Chart}
 use Rattle.run.specs.declared.run.Run.{Run}
-use Rattle.cycle.specs.declared.cycling.Cycled.{Cycled}
+use Rattle.cycle.specs.Answer.{Cycled}
 use Rattle.claims.specs.Counters.{counter_in}
 use Rattle.claims.specs.Runs.{Call, answer}
 

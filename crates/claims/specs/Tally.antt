@@ -7,9 +7,9 @@ use Rattle.sets.specs.Sets.{has}
 use Rattle.chart.specs.declared.chart.Chart.{Chart}
 use Rattle.run.specs.declared.run.Run.{Run}
 use Rattle.passes.specs.Moving.{signals_of, as_expected}
-use Rattle.cycle.specs.declared.cycling.Cycled.{Cycled}
+use Rattle.cycle.specs.Answer.{Cycled}
 use Rattle.tally.specs.Tallying.{is_passed, is_failed, is_not_run}
-use Rattle.tally.specs.declared.tallying.Tallied.{Tallied}
+use Rattle.tally.specs.Answer.{Tallied}
 use Rattle.claims.specs.Runs.{Call, answer, inputs_of, after}
 
 -- in an answer, step k was left: a transition that it carries has k as a source

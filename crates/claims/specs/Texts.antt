@@ -8,7 +8,7 @@ use Rattle.sets.specs.Loops.{table}
 use Rattle.chart.specs.Chart.{no_chart}
 use Rattle.chart.specs.Held.{chart_code}
 use Rattle.reader.specs.Reading.{accepted}
-use Rattle.reader.specs.declared.reading.Reading.{Reading}
+use Rattle.reader.specs.Answer.{Reading}
 use Rattle.forms.specs.Form.{Tree, text_of, Sentence, Stops}
 use Rattle.grammar.specs.Grammar.{text}
 use Rattle.grammar.specs.Meaning.{Said, a_step, a_block, a_transition, text_says}

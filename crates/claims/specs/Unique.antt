@@ -1,4 +1,5 @@
--- "Prove that two answers allowed by one statement are equal": each public function of the parts, by the statement in its source.
+-- "Prove that two answers allowed by one statement are equal": what the public functions of the parts answer, by its definition. Those that answer with a
+-- Result, an Option or a struct, or that change where it lies what they are lent, are in Results.antt by the statement in their source.
 use Rattle.std.specs.Prelude.{ℕ, ◌+◌, ◌%◌, ◌^◌, ◌≤◌, ◌<◌, min, Bool, true, false, cond, List, ◌++◌, ◌≡◌, eqb, ltb, ℤ, length, get_or, take}
 use Rattle.std.proofs.Common.{to_z, of_z}
 use Rattle.std.specs.Int.{w32}
@@ -13,15 +14,13 @@ use Rattle.judging.specs.Judging.{body_code}
 use Rattle.judging.specs.declared.Body.TheVariants.{Step, Action, Transition, Block, Case, Edition}
 use Rattle.reader.specs.Numbers.{le_from}
 use Rattle.reader.specs.Framing.{Answers}
-use Rattle.reader.specs.Reading.{read_chart, Tables, reading_of}
-use Rattle.reader.specs.declared.framing.Next.{Next}
-use Rattle.reader.specs.declared.reading.Read.{Read}
-use Rattle.reader.specs.declared.reading.Reading.{Reading}
+use Rattle.reader.specs.Reading.{read_chart}
+use Rattle.reader.specs.Answer.{Next, Reading}
 use Rattle.choice.specs.Choice.{choosing, chosen_under, chosen_from, reasons_of, held_reasons}
 use Rattle.choice.specs.declared.Choice.{Choice}
 use Rattle.index.specs.Building.{built_after, built_of, indexed_as}
 use Rattle.index.specs.Consulting.{index_after, consulted}
-use Rattle.index.specs.declared.building.Indexed.{Indexed}
+use Rattle.index.specs.Answer.{Indexed}
 use Rattle.acting.specs.Acting.{request_at, putting, asked, acted}
 use Rattle.acting.specs.declared.Steps.{Steps}
 use Rattle.acting.specs.declared.Request.{Request}
@@ -30,7 +29,7 @@ use Rattle.acting.specs.declared.Acted.{Acted}
 use Rattle.run.specs.Run.{no_run, longer_counter, longer_timer}
 use Rattle.run.specs.Apart.{words_of, counters_of, counts_of, times_of, run_of}
 use Rattle.run.specs.Belongs.{belongs_to, own_after}
-use Rattle.run.specs.declared.apart.Words.{Words}
+use Rattle.run.specs.Answer.{Words}
 use Rattle.run.specs.declared.run.StepCounter.{StepCounter}
 use Rattle.run.specs.declared.run.ActionTimer.{ActionTimer}
 use Rattle.run.specs.declared.run.Run.{Run}
@@ -45,31 +44,30 @@ use Rattle.cycle.specs.Cycling.{ready_after, start_of, cycle_of, cycle_by, outpu
 use Rattle.cycle.specs.Stepping.{all_kept}
 use Rattle.calls.specs.Starting.{begun, start_on}
 use Rattle.cycle.specs.Calling.{InParts, in_parts, calls_by}
-use Rattle.cycle.specs.declared.cycling.Cycled.{Cycled}
-use Rattle.calls.specs.declared.starting.Started.{Started}
+use Rattle.cycle.specs.Answer.{Cycled}
+use Rattle.calls.specs.Answer.{Started}
 use Rattle.key.specs.Turning.{turn_of}
-use Rattle.key.specs.declared.turning.Turned.{Turned}
+use Rattle.key.specs.Answer.{Turned}
 use Rattle.shift.specs.Shifting.{Done, lists_code, clocks_taken, shift_of, shift_by}
-use Rattle.trace.specs.Tracing.{call_at, number_of, trace_number}
-use Rattle.trace.specs.declared.tracing.Call.{Call}
+use Rattle.trace.specs.Tracing.{call_at, trace_number}
+use Rattle.trace.specs.Answer.{Call}
 use Rattle.tally.specs.Tallying.{tally_of}
 use Rattle.tally.specs.Weighing.{weight_in, weigh_of}
-use Rattle.tally.specs.declared.tallying.Tallied.{Tallied}
-use Rattle.tally.specs.declared.weighing.Weighed.{Weighed}
+use Rattle.tally.specs.Answer.{Tallied, Weighed}
 use Rattle.writer.specs.Writing.{write_chart}
-use Rattle.writer.specs.declared.writing.Writing.{Writing}
+use Rattle.writer.specs.Answer.{Writing}
 use Rattle.report.specs.Printing.{opening, printed_of, line_after}
 use Rattle.report.specs.declared.printing.Standing.{Standing}
-use Rattle.report.specs.declared.printing.Printed.{Printed}
+use Rattle.report.specs.Answer.{Printed}
 use Rattle.adding.specs.Adding.{added_as, added_after, add_of, sum_after, sum_of}
-use Rattle.adding.specs.declared.adding.Added.{Added}
+use Rattle.adding.specs.Answer.{Added}
 use Rattle.lines.specs.Lines.{text, digit, hex, decimal, named_line, chart_line, Puts}
 use Rattle.weights.specs.Words.{says_of}
 use Rattle.weights.specs.Listing.{fault_in, weights_in}
-use Rattle.weights.specs.declared.listing.Listed.{Listed}
-use Rattle.weights.specs.declared.words.Said.{Said}
+use Rattle.weights.specs.Answer.{Said}
 use Rattle.page.specs.Page.{page_line}
-use Rattle.page.specs.declared.page.Heard.{Heard}
+use Rattle.page.specs.Answer.{Heard}
+use Rattle.claims.specs.Older.{Read, Tables, reading_of, number_of, Listed}
 
 -- two answers that a statement allows are equal
 abbrev pub One : {A : Type 0} → (A → Type 0) → Type 0

@@ -7,7 +7,7 @@ use Rattle.chart.specs.declared.chart.Chart.{Chart}
 use Rattle.reader.specs.Reading.{accepted, read_chart}
 use Rattle.writer.specs.Writing.{file_of, write_chart}
 use Rattle.writer.specs.Back.{as_counted, Typed}
-use Rattle.writer.specs.declared.writing.Writing.{Writing}
+use Rattle.writer.specs.Answer.{Writing}
 use Rattle.claims.specs.Answers.{one_of, chart_numbers}
 
 -- ---- the answer

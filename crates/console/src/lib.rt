@@ -6,16 +6,16 @@ ghost use Rattle.std.specs.Prelude.{◌≤◌, length};
 use std::fs::{Files, open};
 use std::io::{Print, Read};
 
-// Reads until the space is full, the input ends or a read fails. How many bytes stand at the start of the space now.
+// Reads until the space is full, the input ends or a read fails. How many bytes stand at the start of the space now. It is lent: no heap.
 pub fn read_full(input: &mut impl Read, space: &mut [u8]) -> usize
     ensures { result ≤ length space.new }
 {
     let mut done = 0;
+    // As many as a read brings, so no step to count by.
     while done < space.len() {
         match input.read(&mut space[done..]) {
-            Ok(0) => break,
+            Ok(0) | Err(_) => break,
             Ok(n) => done += n,
-            Err(_) => break,
         }
     }
     done

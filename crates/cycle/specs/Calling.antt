@@ -1,13 +1,15 @@
 -- Calls made singly, each on the run that the one before returned, up to the first that is refused (document 02, request iii: "The result equals
 -- the calls made singly. It stops at the first refused cycle").
-use Rattle.std.specs.Prelude.{ℕ, suc, min, List, cond, ℤ, length, get_or, set, eqb}
+use Rattle.std.specs.Prelude.{ℕ, suc, min, List, cond, ℤ, length, get_or, set, eqb, Result, Ok, Err}
+use Rattle.refusals.specs.Refusals.{number}
 use Rattle.sets.specs.Loops.{turns}
 use Rattle.chart.specs.declared.chart.Chart.{Chart}
 use Rattle.run.specs.Apart.{words_of, counts_of, times_of}
 use Rattle.run.specs.declared.run.Run.{Run}
 use Rattle.cycle.specs.Cycling.{ready_code, indexed_code, cycle_on}
-use Rattle.cycle.specs.declared.cycling.Cycled.{Cycled}
-use Rattle.cycle.specs.declared.calling.Went.{Went}
+use Rattle.cycle.specs.Answer.{Cycled, Went}
+use Rattle.cycle.specs.declared.calling.Went.{Went as Gone}
+use Rattle.cycle.specs.declared.calling.Stopped.{Stopped}
 
 -- what calls have come to: the number that stopped them, how many were accepted, the transitions that the last of them took, the run there, the
 -- activity words and the outputs
@@ -18,6 +20,11 @@ pub record Calls : Type 0 where
   pub run : Run
   pub activities : List ℕ
   pub outputs : List ℤ
+
+-- the code's answer with the run, the activity words and the outputs that it leaves
+abbrev pub calls_as : Result Gone Stopped → Run → List ℕ → List ℤ → Calls
+calls_as (Ok w) r activities out = record { code = 0; accepted = w.accepted; taken = w.taken; run = r; activities = activities; outputs = out }
+calls_as (Err s) r activities out = record { code = number s.refusal; accepted = s.accepted; taken = 0; run = r; activities = activities; outputs = out }
 
 -- none made, and why
 abbrev pub no_calls : ℕ → Run → List ℕ → List ℤ → Calls

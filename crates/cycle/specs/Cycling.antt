@@ -21,7 +21,7 @@ use Rattle.passes.specs.Moving.{settled_counters, settled_timers, signals_of, ma
 use Rattle.passes.specs.Outputs.{outputs_of}
 use Rattle.passes.specs.Explaining.{no_reasons}
 use Rattle.passes.specs.declared.moving.Marks.{Marks}
-use Rattle.cycle.specs.declared.cycling.Cycled.{Cycled}
+use Rattle.cycle.specs.Answer.{Cycled}
 
 abbrev pub refused : ℕ → Run → Cycled
 refused code run = record { code = code; taken = 0; reasons = no_reasons; run = run }
@@ -126,6 +126,10 @@ cycle_of c r clock inputs lent = cond (eqb (cycle_code c r clock lent) 0) (cycle
 -- the tests before 12 where an index is lent. Document 02, request (ix): 20, "tested after the chart and before 12"
 abbrev pub indexed_code : Chart → List ℕ → ℕ → ℕ
 indexed_code c index lent = or_else (unless (leb 32 lent) 15) (index_after (chart_code c) c.transitions c.sources index)
+
+-- and 12 with them: "a cycle tests 15, chart, 12, 11", but for the last
+abbrev pub ready_by : Chart → List ℕ → Run → ℕ → ℕ
+ready_by c index r lent = ready_after (index_after (chart_code c) c.transitions c.sources index) c.steps c.actions c.cases r lent
 
 -- "A cycle that consults only transitions leaving some active step .. gives the same answer throughout."
 abbrev pub cycle_by : Chart → List ℕ → Run → ℕ → ℕ → ℕ → Cycled

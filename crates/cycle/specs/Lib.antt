@@ -1,3 +1,4 @@
+pub mod Answer
 pub mod Bounds
 pub mod Cycling
 pub mod Stepping

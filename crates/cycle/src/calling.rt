@@ -1,11 +1,39 @@
 // What cycles come to that are made one after the other where the run lies.
-use run::Words;
+ghost use Rattle.std.specs.Prelude.{◌≡◌};
 
-// What stopped the cycles, how many were accepted, the transitions that the last one took, and the run's words there.
-#[derive(Clone, Copy)]
+use refusals::Refusal;
+
+// How many were accepted, all of them, and the transitions that the last one took.
+#[derive(Clone, Copy, Debug, PartialEq, Eq)]
 pub struct Went {
-    pub code: u8,
     pub accepted: usize,
     pub taken: u64,
-    pub words: Words,
+}
+
+// What stopped the cycles, and how many were accepted before it.
+#[derive(Clone, Copy, Debug, PartialEq, Eq)]
+pub struct Stopped {
+    pub refusal: Refusal,
+    pub accepted: usize,
+}
+
+// Refused before any cycle.
+impl From<Refusal> for Stopped {
+    ghost from_gives = { λ e s. s ≡ record { refusal = e; accepted = 0 } };
+
+    fn from(refusal: Refusal) -> Stopped {
+        Stopped {
+            refusal,
+            accepted: 0,
+        }
+    }
+}
+
+// A single cycle has nothing else to say.
+impl From<Stopped> for Refusal {
+    ghost from_gives = { λ s e. e ≡ s.refusal };
+
+    fn from(stopped: Stopped) -> Refusal {
+        stopped.refusal
+    }
 }

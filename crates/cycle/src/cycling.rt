@@ -1,33 +1,26 @@
-// What a start and a cycle answer, and the tests before a cycle.
-ghost use Rattle.std.specs.Prelude.{◌≡◌, length};
-ghost use Rattle.run.specs.Apart.{run_of};
-ghost use Rattle.cycle.specs.Cycling.{ready_after};
+// What a cycle answers, and the tests before it that its clock has no part in.
+ghost use Rattle.std.specs.Prelude.{◌≡◌, true};
+ghost use Rattle.refusals.specs.Refusals.{code_of};
+ghost use Rattle.index.specs.Consulting.{consultable};
+ghost use Rattle.cycle.specs.Cycling.{ready_by};
 
-use crate::codes::FEW_OUTPUTS;
-use run::{Run, Words, belongs};
+use chart::Chart;
+use refusals::{Refusal, unless};
+use run::Run;
 
-// The number, the transitions taken, why each of 64 is not (document 02, request vi), and the run.
-#[derive(Clone, Copy)]
-pub struct Cycled {
-    pub code: u8,
+// The transitions taken, and why each of 64 is not (document 02, request vi).
+#[derive(Clone, Copy, Debug, PartialEq, Eq)]
+pub struct Cycle {
     pub taken: u64,
     pub reasons: [u8; 64],
-    pub run: Run,
 }
 
-// The tests of a cycle that its clock has no part in, the chart's by its number.
-pub fn ready_code(
-    held: u8,
-    steps: usize,
-    actions: usize,
-    cases: usize,
-    words: Words,
-    counts: &[u32; 64],
-    times: &[u32; 32],
-    lent: usize,
-) -> u8
-    ensures { (result ≡ ready_after held steps actions cases (run_of words counts.now times.now) lent) × (length counts.now ≡ 64) × (length times.now ≡ 32) }
+// 15, the chart, the index if one is lent, and 12. An index that was tested can be consulted.
+pub fn ready(chart: &Chart, index: &[u64], run: &Run, lent: usize) -> Result<(), Refusal>
+    ensures tests { code_of result ≡ ready_by chart.now index.now run.now lent }
+    ensures consults { code_of result ≡ 0 → consultable chart.now.transitions chart.now.sources index.now ≡ true }
 {
-    let code = belongs::own_code(held, words, counts, times, steps, actions, cases);
-    fields::or_else(fields::unless(32 <= lent, FEW_OUTPUTS), code)
+    unless(32 <= lent, Refusal::FewOutputs)?;
+    index::check_index(chart, index)?;
+    unless(run.belongs(chart), Refusal::OtherRun)
 }

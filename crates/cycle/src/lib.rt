@@ -2,8 +2,7 @@
 #![tactic(auto)]
 
 pub mod calling;
-pub mod codes;
 pub mod cycling;
 
-pub use calling::Went;
-pub use cycling::{Cycled, ready_code};
+pub use calling::{Stopped, Went};
+pub use cycling::{Cycle, ready};

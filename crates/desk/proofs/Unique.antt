@@ -3,10 +3,9 @@
 use Prim.Native.Nat.{ℕ}
 use mathlib.Core.List.{List}
 use mathlib.Core.Path.{◌≡◌, sym, ap, ◌∙◌}
-use Rattle.records.specs.declared.Found.{Found}
+use Rattle.records.specs.Answer.{Found}
 use Rattle.records.proofs.Unique.{record-from-unique}
-use Rattle.desk.specs.Lent.{told_of, Tells}
-use Rattle.desk.specs.declared.filing.Told.{Told}
+use Rattle.desk.specs.Lent.{told_of, Tells, Told}
 
 -- what is told of a record, and where the next question goes
 abbrev Spelled : Type 0

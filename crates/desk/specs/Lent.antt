@@ -1,14 +1,13 @@
 -- What an entry leaves with its caller, each part where it was lent, by the answers that documents 01 and 02 define.
 use Rattle.std.specs.Prelude.{ℕ, List, ◌≡◌}
 use Rattle.chart.specs.declared.chart.Chart.{Chart}
-use Rattle.reader.specs.declared.framing.Next.{Next}
-use Rattle.reader.specs.declared.framing.Next.TheVariants.{Record, End, Refused}
-use Rattle.reader.specs.declared.reading.Reading.{Reading}
+use Rattle.reader.specs.Answer.{Next}
+use Rattle.reader.specs.Answer.{Record, End, Refused}
+use Rattle.reader.specs.Answer.{Reading}
 use Rattle.records.specs.Asking.{Finds}
-use Rattle.tally.specs.declared.tallying.Tallied.{Tallied}
-use Rattle.tally.specs.declared.weighing.Weighed.{Weighed}
-use Rattle.writer.specs.declared.writing.Writing.{Writing}
-use Rattle.desk.specs.declared.filing.Told.{Told}
+use Rattle.tally.specs.Answer.{Tallied}
+use Rattle.tally.specs.Answer.{Weighed}
+use Rattle.writer.specs.Answer.{Writing}
 
 -- ---- answers by their numbers
 
@@ -25,6 +24,12 @@ abbrev pub weighed_as : ℕ → ℕ → ℕ → Weighed
 weighed_as code transition total = record { code = code; transition = transition; total = total }
 
 -- ---- the record step's answer spelled out: zeros for the end, and for what a refusal has not
+
+pub record Told : Type 0 where
+  pub code : ℕ
+  pub kind : ℕ
+  pub place : ℕ
+  pub length : ℕ
 
 abbrev pub told_of : Next → Told
 told_of (Record k p n) = record { code = 0; kind = k; place = p; length = n }

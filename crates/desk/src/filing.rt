@@ -1,53 +1,17 @@
-// A chart from its file, and back into one.
+// A chart from its file or its text, and back into a file. A number of refusal is a byte, and answers are stored where they are lent: the C interface.
 ghost use Rattle.std.specs.Prelude.{◌≡◌, List, ℕ};
-ghost use Rattle.chart.specs.Chart.{chart_of};
 ghost use Rattle.chart.specs.Held.{chart_code};
 ghost use Rattle.reader.specs.Reading.{read_chart};
+ghost use Rattle.grammar.specs.Answer.{Answers};
 ghost use Rattle.writer.specs.Writing.{write_chart};
-ghost use Rattle.writer.specs.declared.writing.Writing.{Writing};
-ghost use Rattle.desk.specs.Lent.{told_of, Tells, read_as, written_as};
+ghost use Rattle.writer.specs.Answer.{Writing};
+ghost use Rattle.desk.specs.Lent.{Tells, read_as, written_as};
 
-use reader::Next;
+use chart::Chart;
+use reader::Record;
 
-// The record step's answer, spelled out: a record's kind, place and length; zeros for the end; a refusal's number and place.
-#[derive(Clone, Copy)]
-pub struct Told {
-    pub code: u8,
-    pub kind: u16,
-    pub place: usize,
-    pub length: usize,
-}
-
-fn spelled(answer: Next) -> Told
-    ensures { result ≡ told_of answer }
-{
-    match answer {
-        Next::Record {
-            kind,
-            place,
-            length,
-        } => Told {
-            code: 0,
-            kind,
-            place,
-            length,
-        },
-        Next::End => Told {
-            code: 0,
-            kind: 0,
-            place: 0,
-            length: 0,
-        },
-        Next::Refused { code, place } => Told {
-            code,
-            kind: 0,
-            place,
-            length: 0,
-        },
-    }
-}
-
-// The next record, by the reader that remembers the place and the kind before: the number, and the record.
+// The next record, by the reader that remembers the place and the kind before: the number, and the record; zeros for the end, and for what a refusal
+// has not.
 #[unsafe(no_mangle)]
 pub extern "C" fn tolwaziho_next_record(
     bytes: &[u8],
@@ -59,178 +23,81 @@ pub extern "C" fn tolwaziho_next_record(
 ) -> u8
     ensures { Tells result kind.new place.new length.new at.new before.new bytes.now at.old before.old }
 {
-    let found = records::record_from(bytes, *at, *before);
-    *at = found.at;
-    *before = found.before;
-    let answer = found.answer;
-    let t = spelled(answer);
-    *kind = t.kind;
-    *place = t.place;
-    *length = t.length;
-    t.code
+    *kind = 0;
+    *place = 0;
+    *length = 0;
+    match records::record_from(bytes, at, before) {
+        Ok(Some(record)) => {
+            *kind = record.kind;
+            *place = record.place;
+            *length = record.length;
+            0
+        }
+        Ok(None) => 0,
+        Err(fault) => {
+            *place = fault.place;
+            fault.refusal.number()
+        }
+    }
 }
 
-// Reading, into the lent tables: the number, and its place.
+// Reading, into the lent chart: the number, and its place.
 #[unsafe(no_mangle)]
-pub extern "C" fn tolwaziho_read(
-    bytes: &[u8],
-    steps: &mut usize,
-    actions: &mut usize,
-    transitions: &mut usize,
-    blocks: &mut usize,
-    cases: &mut usize,
-    initial: &mut [u8; 64],
-    output: &mut [u8; 32],
-    value: &mut [i32; 32],
-    sources: &mut [u64; 64],
-    targets: &mut [u64; 64],
-    on: &mut [u64; 64],
-    off: &mut [u64; 64],
-    wait: &mut [u32; 64],
-    blockstep: &mut [u8; 256],
-    blockaction: &mut [u8; 256],
-    qualifier: &mut [u8; 256],
-    duration: &mut [u32; 256],
-    casestep: &mut [u8; 64],
-    signal: &mut [u8; 64],
-    expected: &mut [u8; 64],
-    edition: &mut u8,
-    place: &mut usize,
-) -> u8
-    ensures { read_as result place.new (chart_of steps.new actions.new transitions.new blocks.new cases.new initial.new output.new value.new sources.new targets.new on.new off.new wait.new blockstep.new blockaction.new qualifier.new duration.new casestep.new signal.new expected.new edition.new) ≡ read_chart bytes.now }
+pub extern "C" fn tolwaziho_read(bytes: &[u8], chart: &mut Chart, place: &mut usize) -> u8
+    ensures { read_as result place.new chart.new ≡ read_chart bytes.now }
 {
-    let r = reader::read_into(
-        bytes,
-        initial,
-        output,
-        value,
-        sources,
-        targets,
-        on,
-        off,
-        wait,
-        blockstep,
-        blockaction,
-        qualifier,
-        duration,
-        casestep,
-        signal,
-        expected,
-    );
-    *steps = r.steps;
-    *actions = r.actions;
-    *transitions = r.transitions;
-    *blocks = r.blocks;
-    *cases = r.cases;
-    *edition = r.edition;
-    *place = r.place;
-    r.code
+    match reader::read_into(bytes, chart) {
+        Ok(()) => {
+            *place = 0;
+            0
+        }
+        Err(fault) => {
+            *place = fault.place;
+            fault.refusal.number()
+        }
+    }
 }
 
-// The test of a held chart: its number. No test looks at `value`.
+// The same of a text (document 02, request iv).
 #[unsafe(no_mangle)]
-pub extern "C" fn tolwaziho_test<'a>(
-    steps: usize,
-    actions: usize,
-    transitions: usize,
-    blocks: usize,
-    cases: usize,
-    initial: &'a [u8; 64],
-    output: &'a [u8; 32],
-    value: &'a [i32; 32],
-    sources: &'a [u64; 64],
-    targets: &'a [u64; 64],
-    on: &'a [u64; 64],
-    off: &'a [u64; 64],
-    wait: &'a [u32; 64],
-    blockstep: &'a [u8; 256],
-    blockaction: &'a [u8; 256],
-    qualifier: &'a [u8; 256],
-    duration: &'a [u32; 256],
-    casestep: &'a [u8; 64],
-    signal: &'a [u8; 64],
-    expected: &'a [u8; 64],
-    edition: u8,
-) -> u8
-    ensures { result ≡ chart_code (chart_of steps actions transitions blocks cases initial.now output.now value.now sources.now targets.now on.now off.now wait.now blockstep.now blockaction.now qualifier.now duration.now casestep.now signal.now expected.now edition) }
+pub extern "C" fn tolwaziho_read_text(bytes: &[u8], chart: &mut Chart, place: &mut usize) -> u8
+    ensures { Answers bytes.now (read_as result place.new chart.new) }
 {
-    chart::held_code(
-        steps,
-        actions,
-        transitions,
-        blocks,
-        cases,
-        initial,
-        output,
-        sources,
-        targets,
-        on,
-        off,
-        wait,
-        blockstep,
-        blockaction,
-        qualifier,
-        duration,
-        casestep,
-        signal,
-        expected,
-        edition,
-    )
+    match text::read_text(bytes) {
+        Ok(said) => {
+            *chart = said;
+            *place = 0;
+            0
+        }
+        Err(fault) => {
+            *chart = Chart::empty(0);
+            *place = fault.place;
+            fault.refusal.number()
+        }
+    }
+}
+
+// The test of a held chart: its number.
+#[unsafe(no_mangle)]
+pub extern "C" fn tolwaziho_test(chart: &Chart) -> u8
+    ensures { result ≡ chart_code chart.now }
+{
+    refusals::code_of(chart.check())
 }
 
 // Writing, into the lent bytes: the number, and the length written.
 #[unsafe(no_mangle)]
-pub extern "C" fn tolwaziho_write<'a>(
-    steps: usize,
-    actions: usize,
-    transitions: usize,
-    blocks: usize,
-    cases: usize,
-    initial: &'a [u8; 64],
-    output: &'a [u8; 32],
-    value: &'a [i32; 32],
-    sources: &'a [u64; 64],
-    targets: &'a [u64; 64],
-    on: &'a [u64; 64],
-    off: &'a [u64; 64],
-    wait: &'a [u32; 64],
-    blockstep: &'a [u8; 256],
-    blockaction: &'a [u8; 256],
-    qualifier: &'a [u8; 256],
-    duration: &'a [u32; 256],
-    casestep: &'a [u8; 64],
-    signal: &'a [u8; 64],
-    expected: &'a [u8; 64],
-    edition: u8,
-    bytes: &mut [u8],
-    length: &mut usize,
-) -> u8
-    ensures { ◌≡◌ {A = Writing × List ℕ} (written_as result length.new, bytes.new) (write_chart (chart_of steps actions transitions blocks cases initial.now output.now value.now sources.now targets.now on.now off.now wait.now blockstep.now blockaction.now qualifier.now duration.now casestep.now signal.now expected.now edition) bytes.old) }
+pub extern "C" fn tolwaziho_write(chart: &Chart, bytes: &mut [u8], length: &mut usize) -> u8
+    ensures { ◌≡◌ {A = Writing × List ℕ} (written_as result length.new, bytes.new) (write_chart chart.now bytes.old) }
 {
-    let w = writer::write_on(
-        steps,
-        actions,
-        transitions,
-        blocks,
-        cases,
-        initial,
-        output,
-        value,
-        sources,
-        targets,
-        on,
-        off,
-        wait,
-        blockstep,
-        blockaction,
-        qualifier,
-        duration,
-        casestep,
-        signal,
-        expected,
-        edition,
-        bytes,
-    );
-    *length = w.length;
-    w.code
+    match writer::write_chart(chart, bytes) {
+        Ok(written) => {
+            *length = written;
+            0
+        }
+        Err(refusal) => {
+            *length = 0;
+            refusal.number()
+        }
+    }
 }

@@ -1,9 +1,7 @@
 -- Two answers that one statement allows are equal, with all that they leave, for each entry.
-use mathlib.Core.List.{List}
-use mathlib.Core.Path.{◌≡◌}
-use lib.IntN.{ℤ}
+use Rattle.std.proofs.Common.{List, ◌≡◌, ℤ}
 use Rattle.sets.proofs.Unique.{one_answer}
-use Rattle.cycle.specs.declared.cycling.Cycled.{Cycled}
+use Rattle.cycle.specs.Answer.{Cycled}
 use Rattle.calls.specs.Lent.{Left, left}
 use Rattle.shift.specs.Shifting.{Done}
 use Rattle.engine.specs.Lent.{ShiftLeft, shift_left}

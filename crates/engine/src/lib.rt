@@ -1,6 +1,7 @@
-// The engine for programs in other languages, the calls at a rig: start, cycle and shift; `key`, `index` and `desk` have the others of documents 01
-// and 02. Nothing is copied or decoded on the way: the chart's tables, the run's words, counters and timers and the outputs are lent as they lie with
-// the caller. lib/tolwaziho.c hands the fields of its structs over, and include/tolwaziho.h is the page to read.
+// The calls of documents 01 and 02 at the rig for programs in other languages, as a static library: C's structs tw_chart and tw_run are lent as they
+// lie, and nothing is copied on the way. Each answers the number of refusal; lib/tolwaziho.c calls it by the name in include/tolwaziho.h.
 #![tactic(auto)]
 
+pub mod indexing;
 pub mod running;
+pub mod turning;

@@ -25,7 +25,7 @@ use Rattle.passes.specs.Choosing.{steps_of}
 use Rattle.passes.specs.Moving.{signals_of, marks_of}
 use Rattle.passes.specs.Outputs.{first, outputs_of}
 use Rattle.cycle.specs.Cycling.{start_of, counts_at, choice_of, cycle_of, cycle_by, outputs_after}
-use Rattle.cycle.specs.declared.cycling.Cycled.{Cycled}
+use Rattle.cycle.specs.Answer.{Cycled}
 use Rattle.cycle.specs.Calling.{singly}
 use Rattle.key.specs.Turning.{marked, turn_of}
 use Rattle.shift.specs.Shifting.{Done, shift_of}

@@ -3,39 +3,161 @@
 #![tactic(auto)]
 
 ghost use Rattle.std.specs.Prelude.{◌≡◌, ◌+◌, eqb};
-ghost use Rattle.sets.specs.Loops.{or_else};
+ghost use Rattle.refusals.specs.Refusals.{code_of};
 ghost use Rattle.sets.specs.Sets.{beyond};
-ghost use Rattle.fields.specs.Fields.{timed, unless, kind_fits, step_fits, action_fits, signal_exists, transition_fits, transition_code, duration_fits, block_fits, case_fits, edition_fits, second};
+ghost use Rattle.fields.specs.Fields.{timed, kind_fits, step_fits, action_fits, signal_exists, transition_fits, transition_code, duration_fits, block_fits, case_fits, edition_fits, second};
+ghost use Rattle.fields.specs.Qualifiers.{names};
 
-pub mod codes;
-
-use codes::{BAD_FIELD, BAD_SIGNALS, BAD_STEPS};
+use refusals::Refusal;
 
 // Waits and durations are at most a day.
 pub const LONGEST: u32 = 86_400_000;
 
-// By comparisons: a `match` would be a jump for each block, and in a pass over many the compiler makes vectors of these.
+#[derive(Clone, Copy, Debug, PartialEq, Eq)]
+pub struct Action {
+    pub output: u8,
+    pub value: i32,
+}
+
+// Its steps and signals as sets.
+#[derive(Clone, Copy, Debug, PartialEq, Eq)]
+pub struct Transition {
+    pub sources: u64,
+    pub targets: u64,
+    pub on: u64,
+    pub off: u64,
+    pub wait: u32,
+}
+
+#[derive(Clone, Copy, Debug, PartialEq, Eq)]
+pub struct Block {
+    pub step: u8,
+    pub action: u8,
+    pub qualifier: u8,
+    pub duration: u32,
+}
+
+#[derive(Clone, Copy, Debug, PartialEq, Eq)]
+pub struct Case {
+    pub step: u8,
+    pub signal: u8,
+    pub expected: u8,
+}
+
+// A block's qualifier, as document 01 names them; files and tables have the bytes 0 to 10 for them.
+#[derive(Clone, Copy, Debug, PartialEq, Eq)]
+pub enum Qualifier {
+    N,
+    R,
+    S,
+    L,
+    D,
+    P,
+    Sd,
+    Ds,
+    Sl,
+    P1,
+    P0,
+}
+
+impl TryFrom<u8> for Qualifier {
+    type Error = Refusal;
+
+    ghost try_from_gives = { names };
+
+    // One jump for each block, where the blocks are gone through: as a call of its own it takes six instructions more.
+    #[inline(always)]
+    fn try_from(byte: u8) -> Result<Qualifier, Refusal> {
+        match byte {
+            0 => Ok(Qualifier::N),
+            1 => Ok(Qualifier::R),
+            2 => Ok(Qualifier::S),
+            3 => Ok(Qualifier::L),
+            4 => Ok(Qualifier::D),
+            5 => Ok(Qualifier::P),
+            6 => Ok(Qualifier::Sd),
+            7 => Ok(Qualifier::Ds),
+            8 => Ok(Qualifier::Sl),
+            9 => Ok(Qualifier::P1),
+            10 => Ok(Qualifier::P0),
+            _ => Err(Refusal::BadField),
+        }
+    }
+}
+
+impl Action {
+    // Its value is any.
+    pub fn fits(self) -> bool
+        ensures { result ≡ action_fits self.output }
+    {
+        action_fits(self.output)
+    }
+}
+
+impl Transition {
+    fn fits(self, steps: usize, actions: usize) -> bool
+        ensures { result ≡ transition_fits steps actions self.sources self.targets self.on self.off self.wait }
+    {
+        sets::is_apart(
+            sets::joined(self.sources, self.targets),
+            sets::beyond(steps),
+        ) & sets::is_apart(sets::joined(self.on, self.off), no_signals(actions))
+            & (self.wait <= LONGEST)
+    }
+
+    // The first of its three numbers.
+    pub fn check(self, steps: usize, actions: usize) -> Result<(), Refusal>
+        ensures { code_of result ≡ transition_code steps actions self.sources self.targets self.on self.off self.wait }
+    {
+        let apart = sets::is_apart(self.sources, self.targets);
+        let differ = (self.sources != 0) & (self.targets != 0) & apart;
+        refusals::unless(self.fits(steps, actions), Refusal::BadField)?;
+        refusals::unless(differ, Refusal::BadSteps)?;
+        refusals::unless(sets::is_apart(self.on, self.off), Refusal::BadSignals)
+    }
+
+    // Whether it has none of them, for a pass over many: the compiler joins the sets that must be empty, and makes vectors of the pass.
+    pub fn passes(self, steps: usize, actions: usize) -> bool
+        ensures { result ≡ eqb (transition_code steps actions self.sources self.targets self.on self.off self.wait) 0 }
+    {
+        self.fits(steps, actions)
+            & sets::is_apart(self.on, self.off)
+            & sets::is_apart(self.sources, self.targets)
+            & (self.sources != 0)
+            & (self.targets != 0)
+    }
+}
+
+impl Block {
+    pub fn fits(self, steps: usize, actions: usize) -> bool
+        ensures { result ≡ block_fits steps actions self.step self.action self.qualifier self.duration }
+    {
+        ((self.step as usize) < steps)
+            & ((self.action as usize) < actions)
+            & (self.qualifier <= 10)
+            & duration_fits(self.qualifier, self.duration)
+    }
+}
+
+impl Case {
+    pub fn fits(self, steps: usize, actions: usize) -> bool
+        ensures { result ≡ case_fits steps actions self.step self.signal self.expected }
+    {
+        ((self.step as usize) < steps)
+            & (self.signal < 64)
+            & signal_exists(self.signal, actions)
+            & (self.expected <= 1)
+    }
+}
+
+// By comparisons: a `match` on the qualifier would be a jump for each block, and in a pass over many the compiler makes vectors of these.
 pub fn is_timed(qualifier: u8) -> bool
     ensures { result ≡ timed qualifier }
 {
     (3 <= qualifier) & (qualifier <= 8) & (qualifier != 5)
 }
 
-// The first of two numbers that is not 0.
-pub fn or_else(a: u8, b: u8) -> u8
-    ensures { result ≡ or_else a b }
-{
-    if a == 0 { b } else { a }
-}
-
-// The number unless the test holds.
-pub fn unless(ok: bool, code: u8) -> u8
-    ensures { result ≡ unless ok code }
-{
-    if ok { 0 } else { code }
-}
-
-// A record's kind, after the kind before it.
+// A record's kind, after the kind before it: any numbers, as a file has them and C lends them.
 pub fn kind_fits(kind: u16, before: u16) -> bool
     ensures { result ≡ kind_fits kind before }
 {
@@ -64,82 +186,11 @@ fn no_signals(actions: usize) -> u64
     0
 }
 
-fn transition_fits(
-    steps: usize,
-    actions: usize,
-    sources: u64,
-    targets: u64,
-    on: u64,
-    off: u64,
-    wait: u32,
-) -> bool
-    ensures { result ≡ transition_fits steps actions sources targets on off wait }
-{
-    sets::is_apart(sets::joined(sources, targets), sets::beyond(steps))
-        & sets::is_apart(sets::joined(on, off), no_signals(actions))
-        & (wait <= LONGEST)
-}
-
-// Whether a transition has no number of refusal, for a pass over many: the compiler joins the sets that must be empty, and makes vectors of the pass.
-pub fn transition_passes(
-    steps: usize,
-    actions: usize,
-    sources: u64,
-    targets: u64,
-    on: u64,
-    off: u64,
-    wait: u32,
-) -> bool
-    ensures { result ≡ eqb (transition_code steps actions sources targets on off wait) 0 }
-{
-    transition_fits(steps, actions, sources, targets, on, off, wait)
-        & sets::is_apart(on, off)
-        & sets::is_apart(sources, targets)
-        & (sources != 0)
-        & (targets != 0)
-}
-
-pub fn transition_code(
-    steps: usize,
-    actions: usize,
-    sources: u64,
-    targets: u64,
-    on: u64,
-    off: u64,
-    wait: u32,
-) -> u8
-    ensures { result ≡ transition_code steps actions sources targets on off wait }
-{
-    let fits = transition_fits(steps, actions, sources, targets, on, off, wait);
-    let differ = (sources != 0) & (targets != 0) & sets::is_apart(sources, targets);
-    let apart = sets::is_apart(on, off);
-    let field = unless(fits, BAD_FIELD);
-    let ends = unless(differ, BAD_STEPS);
-    let signals = unless(apart, BAD_SIGNALS);
-    or_else(field, or_else(ends, signals))
-}
-
-// Two comparisons: of one with a limit that goes by the qualifier the compiler makes a branch.
+// Column by column, and not by `Block`, for the held test's pass. Two comparisons: of one with a limit that goes by the qualifier the compiler makes a branch.
 pub fn duration_fits(qualifier: u8, duration: u32) -> bool
     ensures { result ≡ duration_fits qualifier duration }
 {
     (duration <= LONGEST) & (is_timed(qualifier) | (duration == 0))
-}
-
-pub fn block_fits(
-    steps: usize,
-    actions: usize,
-    step: u8,
-    action: u8,
-    qualifier: u8,
-    duration: u32,
-) -> bool
-    ensures { result ≡ block_fits steps actions step action qualifier duration }
-{
-    ((step as usize) < steps)
-        & ((action as usize) < actions)
-        & (qualifier <= 10)
-        & duration_fits(qualifier, duration)
 }
 
 fn signal_exists(signal: u8, actions: usize) -> bool
@@ -149,12 +200,6 @@ fn signal_exists(signal: u8, actions: usize) -> bool
         return true;
     }
     ((signal - 32) as usize) < actions
-}
-
-pub fn case_fits(steps: usize, actions: usize, step: u8, signal: u8, expected: u8) -> bool
-    ensures { result ≡ case_fits steps actions step signal expected }
-{
-    ((step as usize) < steps) & (signal < 64) & signal_exists(signal, actions) & (expected <= 1)
 }
 
 // The edition of a held chart (document 02, request viii).

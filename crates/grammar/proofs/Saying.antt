@@ -8,7 +8,7 @@ use lib.ListN.{length, get_or, set, length-append}
 use Rattle.fields.specs.Fields.{S, D, P}
 use Rattle.sets.specs.Sets.{insert}
 use Rattle.forms.specs.Form.{Mark, Form, one, or, many, Tree, nothing, byte, both, left, right, done, more, marks, bytes}
-use Rattle.grammar.specs.declared.Line.{Line}
+use Rattle.grammar.specs.Pen.{Line}
 use Rattle.grammar.specs.Grammar.{◌·◌, ◌▹◌, ◌▸◌, ws, gap, perhaps, token, up_to_63, up_to_31, step_name, input, condition, list, steps, transition, duration, untimed, timed, qualifier, association, declaration, initial, step, text, NONE, SOURCE, TARGET, INPUT, NOT-INPUT, ACTED}
 use Rattle.grammar.specs.Meaning.{Said, a_step, a_block, width, decimal, number_of, name_of, Inputs, with_input, with_inputs, no_inputs, inputs_of, with_names, list_of, steps_of, transition_says, transitions_say, untimed_of, timed_of, duration_of, qualified_of, association_says, associations_say, declaration_says, step_says, steps_say, text_says}
 use Rattle.grammar.specs.Pen.{Pen, joined, no_sets, settled, owning, acting, penned, said_at, said_over, blank_pen, clipped, all_clipped, transition_with}

@@ -3,7 +3,11 @@ use mathlib.Core.Path.{◌≡◌, refl, sym, ap, ◌∙◌}
 use mathlib.Core.List.{List, [], ◌∷◌}
 use Prim.Native.Nat.{ℕ}
 use Rattle.reader.specs.Reading.{refused}
-use Rattle.reader.specs.declared.reading.Reading.{Reading}
+use Rattle.std.proofs.Common.{Result}
+use Rattle.chart.specs.declared.chart.Chart.{Chart}
+use Rattle.reader.specs.Answer.{Reading, reading_of}
+use Rattle.reader.specs.declared.framing.Fault.{Fault}
+use Rattle.reader.proofs.Unique.{chart-one}
 use Rattle.forms.specs.Form.{Tree, marks, text_of}
 use Rattle.forms.proofs.Place.{one_place}
 use Rattle.grammar.specs.Grammar.{text}
@@ -35,3 +39,7 @@ read-text-unique s r q (says t e f) (says u g h) = f ∙ ap answer_of (one-readi
 read-text-unique s r q (says t e f) (stops k g h) = absurd (g.refused (record { tree = t; text = e }))
 read-text-unique s r q (stops k e f) (says u g h) = absurd (e.refused (record { tree = u; text = g }))
 read-text-unique s r q (stops j e f) (stops k g h) = f ∙ ap (refused 19) (one_place text s j k e g) ∙ sym h
+
+-- as the code answers
+pub read-text-one : (s : List ℕ) (r q : Result Chart Fault) → Answers s (reading_of r) → Answers s (reading_of q) → r ≡ q
+read-text-one s r q a b = chart-one r q (read-text-unique s _ _ a b)

@@ -7,7 +7,7 @@ use Rattle.chart.specs.declared.chart.Chart.{Chart}
 use Rattle.judging.specs.declared.Body.{Body}
 use Rattle.judging.specs.declared.Body.TheVariants.{Step, Transition, Block}
 use Rattle.reader.specs.Reading.{refused, closed, with_body}
-use Rattle.reader.specs.declared.reading.Reading.{Reading}
+use Rattle.reader.specs.Answer.{Reading}
 use Rattle.forms.specs.Form.{Tree, text_of, Stops}
 use Rattle.grammar.specs.Grammar.{text}
 use Rattle.grammar.specs.Meaning.{Said, a_step, a_block, a_transition, text_says}

@@ -3,9 +3,16 @@
 use Rattle.std.specs.Prelude.{Bool, cond, ◌&&◌, List, [], ◌∷◌, ◌++◌, ℕ, suc, ◌+◌, ◌-◌, ◌*◌, ◌%◌, eqb, leb, get_or, set}
 use Rattle.sets.specs.Sets.{insert}
 use Rattle.forms.specs.Form.{Mark}
-use Rattle.grammar.specs.declared.Line.{Line}
 use Rattle.grammar.specs.Grammar.{FIRST, DIGIT, SOURCE, NOT-INPUT, INITIAL, STEP, OWN, ACTION, TRANSITION, NAMED, ACTED, PASSED}
 use Rattle.grammar.specs.Meaning.{Said, a_step, a_block, a_transition}
+
+-- the step and the block so far: the place of the step's name, whether it is initial, and its number; the action, and the qualifier
+pub record Line : Type 0 where
+  pub place : ℕ
+  pub initial : ℕ
+  pub own : ℕ
+  pub action : ℕ
+  pub qualifier : ℕ
 
 -- the number that is being read or was last; which of the sets the last name goes into, in which it is not yet, or 4; sources, targets, on, off and one that is never
 -- asked for; the step and the block so far

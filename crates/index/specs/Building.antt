@@ -5,7 +5,7 @@ use Rattle.sets.specs.Loops.{table}
 use Rattle.sets.specs.Sets.{has, collect, insert}
 use Rattle.chart.specs.Held.{chart_code}
 use Rattle.chart.specs.declared.chart.Chart.{Chart}
-use Rattle.index.specs.declared.building.Indexed.{Indexed}
+use Rattle.index.specs.Answer.{Indexed}
 
 -- the transitions, of n, that have step k as a source
 abbrev pub leaving_at : ℕ → List ℕ → ℕ → ℕ

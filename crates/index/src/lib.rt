@@ -2,8 +2,7 @@
 #![tactic(auto)]
 
 pub mod building;
-pub mod codes;
 pub mod consulting;
 
-pub use building::{Indexed, index_of};
-pub use consulting::{consulted, index_after};
+pub use building::{index_of, leaving_of};
+pub use consulting::{check_index, consulted};

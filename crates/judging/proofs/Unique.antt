@@ -1,9 +1,14 @@
--- Two answers that one statement allows are equal: for each public function, by its body.
-use Prim.Native.Nat.{ℕ}
-use mathlib.Core.Path.{◌≡◌}
+-- Two answers that the statement allows are equal.
+use Rattle.std.proofs.Common.{◌≡◌, Result}
 use Rattle.sets.proofs.Unique.{one_answer}
+use Rattle.refusals.specs.declared.Refusal.{Refusal}
+use Rattle.refusals.specs.Refusals.{code_of}
+use Rattle.refusals.proofs.Laws.{code-one}
+use Rattle.chart.specs.declared.chart.Chart.{Chart}
 use Rattle.judging.specs.Judging.{body_code}
 use Rattle.judging.specs.declared.Body.{Body}
 
-pub body-code-unique : (s a t b c e : ℕ) (body : Body) (r q : ℕ) → r ≡ body_code s a t b c e body → q ≡ body_code s a t b c e body → r ≡ q
-body-code-unique s a t b c e body r q = one_answer
+pub check-unique : (c : Chart) (body : Body) (r q : Result (Unit {0}) Refusal)
+    → code_of r ≡ body_code c.steps c.actions c.transitions c.blocks c.cases c.edition body
+    → code_of q ≡ body_code c.steps c.actions c.transitions c.blocks c.cases c.edition body → r ≡ q
+check-unique c body r q e f = code-one r q (one_answer e f)

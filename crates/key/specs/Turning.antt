@@ -4,7 +4,7 @@ use Rattle.std.specs.Prelude.{ℕ, Bool, cond, eqb}
 use Rattle.chart.specs.declared.chart.Chart.{Chart}
 use Rattle.run.specs.Belongs.{own_code}
 use Rattle.run.specs.declared.run.Run.{Run}
-use Rattle.key.specs.declared.turning.Turned.{Turned}
+use Rattle.key.specs.Answer.{Turned}
 
 -- "the mark .. must be 0 or 1": 1 is hold
 abbrev pub mark_of : Bool → ℕ

@@ -1,6 +1,6 @@
-// The hold key (document 02, request vii): the calls that set and clear a run's hold mark, by value and for programs in other languages.
+// The hold key (document 02, request vii): the calls that set and clear a run's hold mark.
 #![tactic(auto)]
 
 pub mod turning;
 
-pub use turning::{Turned, hold, release};
+pub use turning::{hold, release};

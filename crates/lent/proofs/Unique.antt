@@ -1,29 +1,33 @@
 -- Two answers that one statement allows are equal, for each public function.
-use Prim.Native.Nat.{ℕ}
-use mathlib.Core.List.{List}
-use mathlib.Core.Path.{◌≡◌, ap}
-use lib.IntN.{ℤ}
-use lib.ListN.{length}
+use Rattle.std.proofs.Common.{ℕ, ◌≡◌, List, ℤ, length, Result, Ok, Err, sym, ap, ap₂, ◌∙◌}
+use Rattle.refusals.specs.declared.Refusal.{Refusal}
+use Rattle.refusals.proofs.Laws.{number-some, number-one}
 use Rattle.chart.specs.declared.chart.Chart.{Chart}
 use Rattle.run.specs.declared.run.Run.{Run}
+use Rattle.cycle.specs.Answer.{Cycled, cycled_as}
 use Rattle.cycle.specs.Cycling.{cycle_of, outputs_after}
-use Rattle.cycle.specs.declared.cycling.Cycled.{Cycled}
+use Rattle.cycle.specs.declared.cycling.Cycle.{Cycle}
+use Rattle.cycle.proofs.Unique.{cycled-one}
 use Rattle.calls.proofs.Unique.{cycle-unique}
-use Rattle.lent.specs.Advancing.{as_cycled}
-use Rattle.lent.specs.declared.advancing.Advanced.{Advanced}
-
-abbrev answered : Cycled → Advanced
-answered o = record { code = o.code; taken = o.taken; reasons = o.reasons }
+use Rattle.lent.specs.Advancing.{by_value}
 
 -- the answer, the run that was left, and the lent outputs
-pub advance-unique : (c : Chart) (run : Run) (clock inputs : ℕ) (r q : Advanced) (s t : Run) (out f g : List ℤ)
-    → as_cycled r s ≡ cycle_of c run clock inputs (length out) → as_cycled q t ≡ cycle_of c run clock inputs (length out)
-    → f ≡ outputs_after c (as_cycled r s) out → g ≡ outputs_after c (as_cycled q t) out → (r ≡ q) × (s ≡ t) × (f ≡ g)
-advance-unique c run clock inputs r q s t out f g d e a b =
-    let same = cycle-unique c run clock inputs (as_cycled r s) (as_cycled q t) out f g d e a b in
-    (ap answered same.0, ap (λ (o : Cycled). o.run) same.0, same.1)
+pub advance-unique : (c : Chart) (run : Run) (clock inputs : ℕ) (r q : Result Cycle Refusal) (s t : Run) (out f g : List ℤ)
+    → cycled_as r s ≡ cycle_of c run clock inputs (length out) → cycled_as q t ≡ cycle_of c run clock inputs (length out)
+    → f ≡ outputs_after c (cycled_as r s) out → g ≡ outputs_after c (cycled_as q t) out → (r ≡ q) × (s ≡ t) × (f ≡ g)
+advance-unique = cycle-unique
 
-pub lent-cycle-unique : (c : Chart) (run : Run) (clock inputs : ℕ) (r q : Cycled) (out f g : List ℤ)
-    → r ≡ cycle_of c run clock inputs (length out) → q ≡ cycle_of c run clock inputs (length out)
-    → f ≡ outputs_after c r out → g ≡ outputs_after c q out → (r ≡ q) × (f ≡ g)
-lent-cycle-unique = cycle-unique
+by-value-one : (given : Run) (r q : Result (Cycle × Run) Refusal) → by_value given r ≡ by_value given q → r ≡ q
+by-value-one given (Ok (a, s)) (Ok (b, t)) e =
+    let same = cycled-one (Ok a) (Ok b) s t e in
+    ap₂ {C = Result (Cycle × Run) Refusal} (λ (o : Cycle) (run : Run). Ok (o, run)) (ap {B = Cycle} (λ (o : Cycled). record { taken = o.taken; reasons = o.reasons }) e) same.1
+by-value-one given (Ok (a, s)) (Err f) e = absurd (number-some f (sym (ap (λ (o : Cycled). o.code) e)))
+by-value-one given (Err f) (Ok (b, t)) e = absurd (number-some f (ap (λ (o : Cycled). o.code) e))
+by-value-one given (Err f) (Err g) e = ap Err (number-one f g (ap (λ (o : Cycled). o.code) e))
+
+pub lent-cycle-unique : (c : Chart) (run : Run) (clock inputs : ℕ) (r q : Result (Cycle × Run) Refusal) (out f g : List ℤ)
+    → by_value run r ≡ cycle_of c run clock inputs (length out) → by_value run q ≡ cycle_of c run clock inputs (length out)
+    → f ≡ outputs_after c (by_value run r) out → g ≡ outputs_after c (by_value run q) out → (r ≡ q) × (f ≡ g)
+lent-cycle-unique c run clock inputs r q out f g e h a b =
+    let same : by_value run r ≡ by_value run q = e ∙ sym h in
+    (by-value-one run r q same, a ∙ ap (λ (o : Cycled). outputs_after c o out) same ∙ sym b)

@@ -3,4 +3,4 @@
 
 pub mod advancing;
 
-pub use advancing::{Advanced, advance, lent_cycle};
+pub use advancing::{advance, lent_cycle};

@@ -5,9 +5,9 @@ use mathlib.Core.Bool.{Bool, true, false, cond}
 use mathlib.Core.Path.{◌≡◌, refl, sym, ap, ◌∙◌}
 use native.Mathlib.Nat.{pow-suc, div-lt_iff_lt-mul}
 use native.Mathlib.Omega.{arith}
-use lib.Dec.{ltb, leb}
+use lib.Dec.{ltb}
 use lib.ListN.{length, length-append}
-use borrow.Author.Tests.{leb-true, leb-false, lt-ltb, le-ltb, le-leb, lt-leb}
+use borrow.Author.Tests.{lt-ltb, le-ltb, le-leb, lt-leb}
 use Rattle.sets.specs.Bytes.{Put}
 use Rattle.sets.proofs.Bytes.{put-none, put-put, put-kept}
 use Rattle.lines.specs.Lines.{text, digit, hex, decimal_from, decimal, chart_line, Puts}
@@ -89,13 +89,6 @@ chart-short code = omega (arith, length-append (text "refused chart " ++ decimal
 -- there was room: it is put
 pub puts : (room : ℕ) (e : List ℕ) (at : ℕ) (t : List ℕ) {now : List ℕ} {end : ℕ} → Puts room e at t now end → at + room ≤ length e → Put e at t now end
 puts room e at t p h = let b = le-leb (at + room) (length e) h in (p.0 ∙ rw b, p.1 ∙ rw b)
-
--- the test found room, or it found none
-pub has_room : (at room more long : ℕ) {r : Bool} → r ≡ leb (at + (room + more)) long → r ≡ true → at + (room + more) ≤ long
-has_room at room more long e h = leb-true (at + (room + more)) long (sym e ∙ h)
-
-pub lacks-room : (at room more long : ℕ) {r : Bool} → r ≡ leb (at + (room + more)) long → r ≡ false → long < at + (room + more)
-lacks-room at room more long e h = leb-false (at + (room + more)) long (sym e ∙ h)
 
 -- there is room and it was put, or there is none
 pub put-there : (room : ℕ) (e : List ℕ) (at : ℕ) (t : List ℕ) {now : List ℕ} {end : ℕ} → at + room ≤ length e → Put e at t now end → Puts room e at t now end

@@ -1,7 +1,8 @@
 // The parts of printed lines, byte for byte, put at a place of a lent buffer; what lies behind a part stays. Each answers the place behind it.
+// A buffer and a place go together in every call, since the project has no heap: the buffer is the caller's, of fixed memory.
 #![tactic(auto)]
 
-ghost use Rattle.std.specs.Prelude.{◌+◌, ◌%◌, ◌≤◌, ◌++◌, ◌≡◌, leb, length};
+ghost use Rattle.std.specs.Prelude.{◌+◌, ◌%◌, ◌≤◌, ◌↔◌, ◌++◌, ◌≡◌, IsTrue, length};
 ghost use Rattle.sets.specs.Bytes.{Put};
 ghost use Rattle.lines.specs.Lines.{text, digit, hex, decimal, named_line, chart_line, Puts};
 
@@ -9,34 +10,24 @@ ghost use Rattle.lines.specs.Lines.{text, digit, hex, decimal, named_line, chart
 pub fn digit(n: u64) -> u8
     ensures { result ≡ digit (n % 16) }
 {
-    let d = n % 16;
-    if d < 10 { 48 + d as u8 } else { 87 + d as u8 }
+    let d = (n % 16) as u8;
+    if d < 10 { b'0' + d } else { b'a' - 10 + d }
 }
 
 // From a place on there are so many bytes, and so many more.
 fn has_room(length: usize, at: usize, room: usize, more: usize) -> bool
-    ensures { result ≡ leb (at + (room + more)) length }
+    ensures { IsTrue result ↔ (at + (room + more) ≤ length) }
 {
-    if length < at {
-        return false;
-    }
-    let behind = length - at;
-    if behind < room {
-        return false;
-    }
-    more <= behind - room
+    at <= length && room <= length - at && more <= length - at - room
 }
 
 fn write(line: &mut [u8], at: usize, bytes: &[u8]) -> usize
     requires { at + length bytes.now ≤ length line.old }
     ensures { Put line.old at bytes.now line.new result }
 {
-    let mut i = 0;
-    while i < bytes.len() {
-        line[at + i] = bytes[i];
-        i += 1;
-    }
-    at + bytes.len()
+    let end = at + bytes.len();
+    line[at..end].copy_from_slice(bytes);
+    end
 }
 
 fn write_hex(line: &mut [u8], at: usize, k: usize, n: u64) -> usize
@@ -76,10 +67,7 @@ pub fn put(line: &mut [u8], at: usize, bytes: &[u8]) -> usize
 pub fn put_decimal(line: &mut [u8], at: usize, n: u64) -> usize
     ensures { Puts 20 line.old at (decimal n) line.new result }
 {
-    if has_room(line.len(), at, 20, 0) {
-        return write_decimal(line, at, n);
-    }
-    at
+    put_named(line, at, b"", n)
 }
 
 // A space and so many hex digits.
@@ -116,6 +104,7 @@ pub fn put_line(line: &mut [u8], at: usize, name: &[u8], n: u64) -> usize
     at
 }
 
+// By the refusal's number: lines are of text and numbers, whoever prints them.
 pub fn chart_line(line: &mut [u8], at: usize, code: u8) -> usize
     ensures { Puts 35 line.old at (chart_line code) line.new result }
 {

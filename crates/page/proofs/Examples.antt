@@ -18,7 +18,7 @@ use Rattle.tally.specs.Weighing.{weight_in, unbalanced, refused}
 use Rattle.page.specs.Sides.{steps_in, side}
 use Rattle.page.specs.Page.{transition_line, initial_line, pair_at, pair_line, closing_line, refusal_line}
 use Rattle.page.specs.Whole.{page_of}
-use Rattle.page.specs.declared.page.Heard.{Heard}
+use Rattle.page.specs.Answer.{Heard}
 
 -- idle, pressurising, venting, recording, recorded
 abbrev brake : List ℕ

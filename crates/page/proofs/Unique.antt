@@ -6,7 +6,7 @@ use lib.ListN.{length}
 use Rattle.sets.proofs.Unique.{one_answer}
 use Rattle.lines.specs.Lines.{Puts}
 use Rattle.page.specs.Page.{page_line}
-use Rattle.page.specs.declared.page.Heard.{Heard}
+use Rattle.page.specs.Answer.{Heard}
 
 pub page-line-unique : (heard : Heard) (n : ℕ) (sources targets : List ℕ) (initial : ℕ) (weights : List ℕ) (k : ℕ) (line f g : List ℕ) (r q : ℕ)
     → Puts 512 line 0 (page_line heard n sources targets initial weights k) f r × (r ≤ length line)

@@ -1,3 +1,4 @@
+pub mod Answer
 pub mod Page
 pub mod Sides
 pub mod Whole

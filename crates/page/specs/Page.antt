@@ -6,9 +6,9 @@ use Rattle.lines.specs.Lines.{text, decimal, named_line, chart_line}
 use Rattle.chart.specs.Initial.{initial_set}
 use Rattle.chart.specs.declared.chart.Chart.{Chart}
 use Rattle.tally.specs.Weighing.{weight_in, balanced, weigh_of}
-use Rattle.tally.specs.declared.weighing.Weighed.{Weighed}
+use Rattle.tally.specs.Answer.{Weighed}
 use Rattle.page.specs.Sides.{joined, side}
-use Rattle.page.specs.declared.page.Heard.{Heard}
+use Rattle.page.specs.Answer.{Heard}
 
 -- ---- the lines
 

@@ -6,7 +6,7 @@ use Rattle.reader.specs.Reading.{read_chart}
 use Rattle.chart.specs.Initial.{initial_set}
 use Rattle.tally.specs.Weighing.{weigh_of}
 use Rattle.page.specs.Page.{too_long, fault_line, page_for, page_line}
-use Rattle.page.specs.declared.page.Heard.{Heard}
+use Rattle.page.specs.Answer.{Heard}
 
 -- the chart's refusal, that of the text, of a line of it, or the page of its weights
 abbrev pub page_of : List ℕ → List ℕ → List ℕ

@@ -2,10 +2,14 @@
 ghost use Rattle.std.specs.Prelude.{◌≤◌, ◌≡◌, length, get_or};
 ghost use Rattle.sets.specs.Bytes.{Put};
 ghost use Rattle.lines.specs.Lines.{Puts};
+ghost use Rattle.tally.specs.Answer.{unweighed_of, weighed_of};
+ghost use Rattle.page.specs.Answer.{heard_as};
 ghost use Rattle.page.specs.Page.{transition_line, is_apart, pair_at, closing_line, is_refused, refusal_line, line_at, page_line};
 
 use crate::sides;
-use tally::Weighed;
+use chart::Chart;
+use refusals::Refusal;
+use tally::Unweighed;
 
 // The most that a line takes, with the room that its parts ask for.
 pub const LINE: usize = 512;
@@ -13,17 +17,22 @@ pub const LINE: usize = 512;
 // The most lines that a page has: a line for each transition, the one below them, and one for each pair of steps, i * 64 + j.
 pub const LINES: usize = 4161;
 
-// What the program heard: the number of the chart's reading, how long the text of the weights is, its first faulty line, and what the weighing answered.
-#[derive(Clone, Copy)]
+// What the program heard: the chart's reading, how long the text of the weights is, the place of its first faulty line, from 0 on, and what the weighing answered.
+#[derive(Clone, Copy, Debug, PartialEq, Eq)]
 pub struct Heard {
-    pub code: u8,
+    pub reading: Result<(), Refusal>,
     pub length: usize,
-    pub fault: usize,
-    pub weighed: Weighed,
+    pub fault: Option<usize>,
+    pub weighed: Result<u32, Unweighed>,
 }
 
-fn transition_line(line: &mut [u8], t: usize, sources: u64, targets: u64, weights: &[u16]) -> usize
-    requires { 512 ≤ length line.old }
+fn transition_line(
+    line: &mut [u8; LINE],
+    t: usize,
+    sources: u64,
+    targets: u64,
+    weights: &[u16],
+) -> usize
     ensures { Put line.old 0 (transition_line t sources targets weights.now) line.new result × (result ≤ 512) }
 {
     let from = lines::put_named(line, 0, b"transition ", t as u64);
@@ -40,11 +49,10 @@ fn is_apart(i: usize, j: usize, weights: &[u16], total: u32) -> bool
     ensures { result ≡ is_apart i j weights.now total }
 {
     let weight = tally::weight_in(sets::with(sets::with(0, i), j), weights);
-    (i < j) & (j < weights.len()) & (total < weight)
+    i < j && j < weights.len() && total < weight
 }
 
-fn pair_line(line: &mut [u8], pair: usize, weights: &[u16], total: u32) -> usize
-    requires { 512 ≤ length line.old }
+fn pair_line(line: &mut [u8; LINE], pair: usize, weights: &[u16], total: u32) -> usize
     ensures { Put line.old 0 (pair_at weights.now total pair) line.new result × (result ≤ 512) }
 {
     let i = pair / 64;
@@ -56,106 +64,112 @@ fn pair_line(line: &mut [u8], pair: usize, weights: &[u16], total: u32) -> usize
     0
 }
 
-fn closing_line(line: &mut [u8], initial: u64, weights: &[u16], weighed: Weighed) -> usize
-    requires { 512 ≤ length line.old }
-    ensures { Put line.old 0 (closing_line initial weights.now weighed) line.new result × (result ≤ 512) }
+// The transition that a refused weighing names.
+fn transition_of(unweighed: Unweighed) -> usize
+    ensures { result ≡ (unweighed_of unweighed).transition }
 {
-    if weighed.code == 0 {
-        return sides::side_line(line, b"initial", initial, weights);
+    match unweighed {
+        Unweighed::Unbalanced { transition } => transition,
+        Unweighed::Refused(_) => 0,
     }
-    lines::put_line(
-        line,
-        0,
-        b"refused weights 14 transition ",
-        weighed.transition as u64,
-    )
 }
 
-// An entry of a table, 0 behind its end. It is lent as a slice, which tells the proof its length.
+fn closing_line(
+    line: &mut [u8; LINE],
+    initial: u64,
+    weights: &[u16],
+    weighed: Result<u32, Unweighed>,
+) -> usize
+    ensures { Put line.old 0 (closing_line initial weights.now (weighed_of weighed)) line.new result × (result ≤ 512) }
+{
+    match weighed {
+        Ok(_) => sides::side_line(line, b"initial", initial, weights),
+        Err(unweighed) => {
+            let transition = transition_of(unweighed) as u64;
+            lines::put_line(line, 0, b"refused weights 14 transition ", transition)
+        }
+    }
+}
+
+// An entry of a table, 0 behind its end.
 fn entry(table: &[u64], k: usize) -> u64
     ensures { result ≡ get_or table.now k 0 }
 {
-    if k < table.len() { table[k] } else { 0 }
+    table.get(k).copied().unwrap_or(0)
 }
 
-fn line_at<'a>(
-    line: &mut [u8],
-    n: usize,
-    sources: &'a [u64; 64],
-    targets: &'a [u64; 64],
+fn line_at(
+    line: &mut [u8; LINE],
+    chart: &Chart,
     initial: u64,
-    weights: &'a [u16],
-    weighed: Weighed,
+    weights: &[u16],
+    weighed: Result<u32, Unweighed>,
     k: usize,
 ) -> usize
-    requires { 512 ≤ length line.old }
-    ensures { Put line.old 0 (line_at n sources.now targets.now initial weights.now weighed k) line.new result × (result ≤ 512) }
+    ensures { Put line.old 0 (line_at chart.now.transitions chart.now.sources chart.now.targets initial weights.now (weighed_of weighed) k) line.new result × (result ≤ 512) }
 {
+    let n = chart.transitions;
     if k < n {
-        return transition_line(line, k, entry(sources, k), entry(targets, k), weights);
+        let sources = entry(&chart.sources, k);
+        let targets = entry(&chart.targets, k);
+        return transition_line(line, k, sources, targets, weights);
     }
     if k == n {
         return closing_line(line, initial, weights, weighed);
     }
-    if weighed.code == 0 {
-        return pair_line(line, k - n - 1, weights, weighed.total);
+    match weighed {
+        Ok(total) => pair_line(line, k - n - 1, weights, total),
+        Err(_) => 0,
     }
-    0
 }
 
-fn is_refused(heard: Heard) -> bool
-    ensures { result ≡ is_refused heard }
+fn is_refused(heard: &Heard) -> bool
+    ensures { result ≡ is_refused (heard_as heard.now) }
 {
-    let weighed = heard.weighed;
-    (heard.code != 0) | (65536 <= heard.length) | (heard.fault != 0) | (weighed.code == 13)
+    heard.reading.is_err()
+        || 65536 <= heard.length
+        || heard.fault.is_some()
+        || matches!(
+            heard.weighed,
+            Err(Unweighed::Refused(Refusal::WrongWeights))
+        )
 }
 
-fn refusal_line(line: &mut [u8], heard: Heard) -> usize
-    requires { 512 ≤ length line.old }
-    ensures { Put line.old 0 (refusal_line heard) line.new result × (result ≤ 512) }
+fn refusal_line(line: &mut [u8; LINE], heard: &Heard) -> usize
+    ensures { Put line.old 0 (refusal_line (heard_as heard.now)) line.new result × (result ≤ 512) }
 {
-    if heard.code != 0 {
-        return lines::chart_line(line, 0, heard.code);
+    if let Err(refusal) = heard.reading {
+        return lines::chart_line(line, 0, refusal.number());
     }
     if 65536 <= heard.length {
         return lines::put(line, 0, b"refused weights too long\n");
     }
-    if heard.fault != 0 {
-        return lines::put_line(line, 0, b"refused weights line ", heard.fault as u64);
+    if let Some(place) = heard.fault {
+        let number = place.saturating_add(1);
+        return lines::put_line(line, 0, b"refused weights line ", number as u64);
     }
     lines::put(line, 0, b"refused weights 13\n")
 }
 
 // Line k of the page at the front of a lent buffer, and its length; a buffer of fewer than 512 bytes gets nothing.
-pub fn page_line<'a>(
-    heard: Heard,
-    n: usize,
-    sources: &'a [u64; 64],
-    targets: &'a [u64; 64],
+pub fn page_line(
+    heard: &Heard,
+    chart: &Chart,
     initial: u64,
-    weights: &'a [u16],
+    weights: &[u16],
     k: usize,
     line: &mut [u8],
 ) -> usize
-    ensures { Puts 512 line.old 0 (page_line heard n sources.now targets.now initial weights.now k) line.new result × (result ≤ length line.old) }
+    ensures { Puts 512 line.old 0 (page_line (heard_as heard.now) chart.now.transitions chart.now.sources chart.now.targets initial weights.now k) line.new result × (result ≤ length line.old) }
 {
-    if line.len() < LINE {
+    let Some(front) = line.first_chunk_mut::<LINE>() else {
         return 0;
-    }
+    };
     if !is_refused(heard) {
-        return line_at(
-            line,
-            n,
-            sources,
-            targets,
-            initial,
-            weights,
-            heard.weighed,
-            k,
-        );
+        return line_at(front, chart, initial, weights, heard.weighed, k);
     }
     if k == 0 {
-        return refusal_line(line, heard);
+        return refusal_line(front, heard);
     }
     0
 }

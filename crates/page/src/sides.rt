@@ -4,6 +4,8 @@ ghost use Rattle.sets.specs.Bytes.{Put};
 ghost use Rattle.lines.specs.Lines.{text};
 ghost use Rattle.page.specs.Sides.{step_at, steps_in, side};
 
+use crate::page::LINE;
+
 // A step's number behind a space, if it is in the set.
 fn put_step(line: &mut [u8], at: usize, set: u64, k: usize) -> usize
     requires { at + 21 ≤ length line.old }
@@ -21,21 +23,13 @@ fn put_steps(line: &mut [u8], at: usize, set: u64) -> usize
     ensures { Put line.old at (steps_in set) line.new result }
 {
     let mut end = at;
-    let mut k = 0;
-    while k < 64 {
+    for k in 0..64 {
         end = put_step(line, end, set, k);
-        k += 1;
     }
     end
 }
 
-pub(crate) fn put_side<'a>(
-    line: &mut [u8],
-    at: usize,
-    name: &'a [u8],
-    set: u64,
-    weights: &'a [u16],
-) -> usize
+pub(crate) fn put_side(line: &mut [u8], at: usize, name: &[u8], set: u64, weights: &[u16]) -> usize
     requires { at + (length name.now + 242) ≤ length line.old }
     ensures { Put line.old at (side name.now set weights.now) line.new result }
 {
@@ -46,8 +40,8 @@ pub(crate) fn put_side<'a>(
 }
 
 // A line of it.
-pub(crate) fn side_line<'a>(line: &mut [u8], name: &'a [u8], set: u64, weights: &'a [u16]) -> usize
-    requires { (512 ≤ length line.old) × (length name.now ≤ 20) }
+pub(crate) fn side_line(line: &mut [u8; LINE], name: &[u8], set: u64, weights: &[u16]) -> usize
+    requires { length name.now ≤ 20 }
     ensures { Put line.old 0 (side name.now set weights.now ++ text "\n") line.new result }
 {
     let end = put_side(line, 0, name, set, weights);

@@ -6,13 +6,12 @@ use Rattle.choice.specs.declared.Choice.{Choice}
 use Rattle.acting.specs.Acting.{asked}
 use Rattle.acting.specs.declared.Asked.{Asked}
 use Rattle.acting.specs.declared.Steps.{Steps}
-use Rattle.run.specs.Apart.{counters_of}
-use Rattle.run.specs.declared.apart.Words.{Words}
+use Rattle.chart.specs.declared.chart.Chart.{Chart}
+use Rattle.run.specs.declared.run.Run.{Run}
 use Rattle.passes.specs.Time.{elapsed, step_time, grown_counts}
 use Rattle.passes.specs.Choosing.{steps_of}
 use Rattle.passes.specs.Moving.{marks_of, signals_of}
 use Rattle.passes.specs.Outputs.{written}
-use Rattle.passes.specs.Explaining.{kept_if}
 use Rattle.passes.specs.declared.moving.Marks.{Marks}
 
 pub elapsed-unique : (last new r q : ℕ) → r ≡ elapsed last new → q ≡ elapsed last new → r ≡ q
@@ -48,10 +47,7 @@ pub write-outputs-unique : (n : ℕ) (output : List ℕ) (value : List ℤ) (act
     → f ≡ written n output value activity out → g ≡ written n output value activity out → f ≡ g
 write-outputs-unique n output value activity out f g = one_answer
 
-pub explain-unique : (edition n : ℕ) (sources targets on off wait counts : List ℕ) (words : Words) (clock inputs : ℕ) (f g : List ℕ)
-    → f ≡ reasons_of words.hold edition n sources targets on off wait (grown_counts (counters_of counts) words.active (step_time words.hold (elapsed words.clock clock))) words.active (signals_of inputs words.activity)
-    → g ≡ reasons_of words.hold edition n sources targets on off wait (grown_counts (counters_of counts) words.active (step_time words.hold (elapsed words.clock clock))) words.active (signals_of inputs words.activity) → f ≡ g
-explain-unique edition n sources targets on off wait counts words clock inputs f g = one_answer
-
-pub keep-if-unique : (code : ℕ) (reasons f g : List ℕ) → f ≡ kept_if code reasons → g ≡ kept_if code reasons → f ≡ g
-keep-if-unique code reasons f g = one_answer
+pub explain-unique : (c : Chart) (r : Run) (clock inputs : ℕ) (f g : List ℕ)
+    → f ≡ reasons_of r.hold c.edition c.transitions c.sources c.targets c.on c.off c.wait (grown_counts r.counters r.active (step_time r.hold (elapsed r.clock clock))) r.active (signals_of inputs r.activity)
+    → g ≡ reasons_of r.hold c.edition c.transitions c.sources c.targets c.on c.off c.wait (grown_counts r.counters r.active (step_time r.hold (elapsed r.clock clock))) r.active (signals_of inputs r.activity) → f ≡ g
+explain-unique c r clock inputs f g = one_answer

@@ -1,37 +1,26 @@
 // Paragraph 4 of "One cycle": what the blocks ask of the actions, in one pass.
 ghost use Rattle.std.specs.Prelude.{◌≡◌, min};
+ghost use Rattle.run.specs.Apart.{counts_of, times_of};
 ghost use Rattle.acting.specs.Acting.{asked};
 ghost use Rattle.passes.specs.Rests.{rests};
 
 use acting::{Asked, Steps};
+use chart::Chart;
+use run::run::{ActionTimer, StepCounter};
 
-pub fn ask_blocks<'a>(
-    n: usize,
-    blockstep: &'a [u8; 256],
-    blockaction: &'a [u8; 256],
-    qualifier: &'a [u8; 256],
-    duration: &'a [u32; 256],
-    counts: &'a [u32; 64],
-    times: &'a [u32; 32],
+pub fn ask_blocks(
+    chart: &Chart,
+    counters: &[StepCounter; 64],
+    timers: &[ActionTimer; 32],
     steps: Steps,
 ) -> Asked
-    ensures { result ≡ asked (min n 256) (rests 64 blockstep.now) (rests 32 blockaction.now) qualifier.now duration.now counts.now times.now steps }
+    ensures { result ≡ asked (min chart.now.blocks 256) (rests 64 chart.now.blockstep) (rests 32 chart.now.blockaction) chart.now.qualifier chart.now.duration (counts_of counters.now) (times_of timers.now) steps }
 {
-    let mut asked = Asked {
-        reset: 0,
-        set: 0,
-        latch: 0,
-        want: 0,
-        ripe: 0,
-    };
-    let last = chart::at_most(n, 256);
-    let mut i = 0;
-    while i < last {
-        let s = chart::index_of(blockstep[i]);
-        let a = chart::index_of(blockaction[i]) % 32;
-        let r = acting::asks(qualifier[i], duration[i], s, a, counts, times, steps);
-        asked = acting::put(asked, a, r);
-        i += 1;
+    let mut asked = Asked::none();
+    for i in 0..chart.blocks.min(256) {
+        let block = chart.block(i);
+        let request = acting::asks(block, counters, timers, steps);
+        asked = acting::put(asked, block.action as usize % 32, request);
     }
     asked
 }

@@ -1,75 +1,53 @@
 // Paragraph 2 of "One cycle": which transitions are taken, in number order; under hold none (document 02, request vii).
 ghost use Rattle.std.specs.Prelude.{◌≡◌, min};
+ghost use Rattle.run.specs.Apart.{counts_of};
 ghost use Rattle.choice.specs.Choice.{chosen_under, chosen_from};
 ghost use Rattle.passes.specs.Choosing.{steps_of};
 
 use acting::Steps;
+use chart::Chart;
 use choice::Choice;
+use run::Run;
 
-pub fn choose<'a>(
-    hold: u8,
-    edition: u8,
-    n: usize,
-    sources: &'a [u64; 64],
-    targets: &'a [u64; 64],
-    on: &'a [u64; 64],
-    off: &'a [u64; 64],
-    wait: &'a [u32; 64],
-    counts: &'a [u32; 64],
-    active: u64,
-    signals: u64,
-) -> Choice
-    ensures { result ≡ chosen_under hold edition (min n 64) sources.now targets.now on.now off.now wait.now counts.now active signals }
+pub fn choose(chart: &Chart, run: &Run, signals: u64) -> Choice
+    ensures { result ≡ chosen_under run.now.hold chart.now.edition (min chart.now.transitions 64) chart.now.sources chart.now.targets chart.now.on chart.now.off chart.now.wait (counts_of run.now.counters) run.now.active signals }
 {
-    let mut choice = Choice {
-        taken: 0,
-        left: 0,
-        claimed: 0,
-    };
-    if hold == 1 {
+    let mut choice = Choice::none();
+    if run.hold == 1 {
         return choice;
     }
-    let last = chart::at_most(n, 64);
-    let mut t = 0;
-    while t < last {
+    for t in 0..chart.transitions.min(64) {
+        let transition = chart.transition(t);
         choice = choice::choose_one(
-            edition, choice, t, sources[t], targets[t], on[t], off[t], wait[t], counts, active,
+            chart.edition,
+            choice,
+            t,
+            transition,
+            &run.counters,
+            run.active,
             signals,
         );
-        t += 1;
     }
     choice
 }
 
 // Of those that are consulted alone, which an index gives (document 02, request ix), in a run that is not held: a pass over the members of a set.
 // Without an index the pass above takes fewer instructions.
-pub fn choose_from<'a>(
-    edition: u8,
-    consulted: u64,
-    sources: &'a [u64; 64],
-    targets: &'a [u64; 64],
-    on: &'a [u64; 64],
-    off: &'a [u64; 64],
-    wait: &'a [u32; 64],
-    counts: &'a [u32; 64],
-    active: u64,
-    signals: u64,
-) -> Choice
-    ensures { result ≡ chosen_from edition consulted sources.now targets.now on.now off.now wait.now counts.now active signals }
+pub fn choose_from(chart: &Chart, consulted: u64, run: &Run, signals: u64) -> Choice
+    ensures { result ≡ chosen_from chart.now.edition consulted chart.now.sources chart.now.targets chart.now.on chart.now.off chart.now.wait (counts_of run.now.counters) run.now.active signals }
 {
-    let mut choice = Choice {
-        taken: 0,
-        left: 0,
-        claimed: 0,
-    };
-    let mut rest = consulted;
-    while rest != 0 {
-        let t = sets::first(rest);
+    let mut choice = Choice::none();
+    for t in sets::each(consulted) {
+        let transition = chart.transition(t);
         choice = choice::choose_one(
-            edition, choice, t, sources[t], targets[t], on[t], off[t], wait[t], counts, active,
+            chart.edition,
+            choice,
+            t,
+            transition,
+            &run.counters,
+            run.active,
             signals,
         );
-        rest = sets::without_first(rest);
     }
     choice
 }

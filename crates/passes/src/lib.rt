@@ -10,7 +10,7 @@ pub mod time;
 
 pub use asking::ask_blocks;
 pub use choosing::{choose, choose_from, steps_of};
-pub use explaining::{explain, keep_if};
+pub use explaining::explain;
 pub use moving::{marks_of, signals_of};
 pub use outputs::write_outputs;
 pub use time::{elapsed, step_time};

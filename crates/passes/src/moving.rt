@@ -3,7 +3,10 @@ ghost use Rattle.std.specs.Prelude.{◌≡◌, ◌%◌, min};
 ghost use Rattle.passes.specs.Rests.{rests};
 ghost use Rattle.passes.specs.Moving.{as_expected, marks_of, signals_of};
 
-#[derive(Clone, Copy)]
+use chart::Chart;
+use fields::Case;
+
+#[derive(Clone, Copy, Debug, PartialEq, Eq)]
 pub struct Marks {
     pub good: u64,
     pub bad: u64,
@@ -16,37 +19,28 @@ pub fn signals_of(inputs: u32, activity: u64) -> u64
     (inputs as u64) | (activity << 32)
 }
 
-fn as_expected(signal: usize, expected: u8, signals: u64) -> bool
-    ensures { result ≡ as_expected (signal % 64) expected signals }
+fn as_expected(case: Case, signals: u64) -> bool
+    ensures { result ≡ as_expected (case.signal % 64) case.expected signals }
 {
-    sets::is_in_mod(signals, signal) == (expected == 1)
+    sets::is_in_mod(signals, case.signal as usize) == (case.expected == 1)
 }
 
 // Where nothing was left, as in most cycles and in all under hold, no case is looked at.
-pub fn marks_of<'a>(
-    n: usize,
-    step: &'a [u8; 64],
-    signal: &'a [u8; 64],
-    expected: &'a [u8; 64],
-    left: u64,
-    signals: u64,
-) -> Marks
-    ensures { result ≡ marks_of (min n 64) (rests 64 step.now) (rests 64 signal.now) expected.now left signals }
+pub fn marks_of(chart: &Chart, left: u64, signals: u64) -> Marks
+    ensures { result ≡ marks_of (min chart.now.cases 64) (rests 64 chart.now.casestep) (rests 64 chart.now.signal) chart.now.expected left signals }
 {
-    if left == 0 {
-        return Marks { good: 0, bad: 0 };
-    }
     let mut good = 0u64;
     let mut bad = 0u64;
-    let last = chart::at_most(n, 64);
-    let mut i = 0;
-    while i < last {
-        if sets::is_in_mod(left, chart::index_of(step[i])) {
-            let fine = as_expected(chart::index_of(signal[i]), expected[i], signals);
+    if left == 0 {
+        return Marks { good, bad };
+    }
+    for i in 0..chart.cases.min(64) {
+        let case = chart.case(i);
+        if sets::is_in_mod(left, case.step as usize) {
+            let fine = as_expected(case, signals);
             good = sets::with_if_mod(good, i, fine);
             bad = sets::with_if_mod(bad, i, !fine);
         }
-        i += 1;
     }
     Marks { good, bad }
 }

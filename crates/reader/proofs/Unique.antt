@@ -1,43 +1,62 @@
--- Two answers that one statement allows are equal, for each public function, the three `_from` by their width. `record_at`'s is in framing/Laws.
-use Prim.Native.Nat.{ℕ}
-use mathlib.Core.List.{List}
-use mathlib.Core.Path.{◌≡◌, ap}
-use lib.IntN.{ℤ}
-use mir.Syntax.{w32}
-use mir.Val.{to_z, of_z}
+-- Two answers that one statement allows are equal, for each public function, the two `_from` by their width.
+use Rattle.std.proofs.Common.{ℕ, ◌≡◌, List, Option, Some, None, Result, Ok, Err, refl, ap, sym}
 use Rattle.sets.proofs.Unique.{one_answer}
+use Rattle.refusals.specs.Refusals.{number}
+use Rattle.refusals.proofs.Laws.{number-some, number-one}
+use Rattle.chart.specs.declared.chart.Chart.{Chart}
 use Rattle.reader.specs.Numbers.{le_from}
-use Rattle.reader.specs.Reading.{read_chart, Tables, reading_of}
-use Rattle.reader.specs.declared.reading.Read.{Read}
-use Rattle.reader.specs.declared.reading.Reading.{Reading}
+use Rattle.reader.specs.Framing.{Answers}
+use Rattle.reader.specs.Answer.{next_of, Reading, reading_in, reading_of}
+use Rattle.reader.specs.Reading.{read_chart}
+use Rattle.reader.specs.declared.framing.Fault.{Fault}
+use Rattle.reader.specs.declared.framing.Record.{Record}
+use Rattle.reader.proofs.framing.Laws.{record-at-unique}
 
 pub from-unique : (w : ℕ) (s : List ℕ) (at r q : ℕ) → r ≡ le_from w s at → q ≡ le_from w s at → r ≡ q
 from-unique w s at r q = one_answer
 
-pub signed-unique : (x : ℕ) (r q : ℤ) → r ≡ to_z w32 x → q ≡ to_z w32 x → r ≡ q
-signed-unique x r q = one_answer
+-- a refusal is told by its number
+fault-one : (e f : Fault) → number e.refusal ≡ number f.refusal → e.place ≡ f.place → e ≡ f
+fault-one e f h k = let r = number-one _ _ h in λ i. record { refusal = r i; place = k i }
 
-pub bits-of-unique : (v : ℤ) (r q : ℕ) → r ≡ of_z w32 v → q ≡ of_z w32 v → r ≡ q
-bits-of-unique v r q = one_answer
+pub next-one : (r q : Result (Option Record) Fault) → next_of r ≡ next_of q → r ≡ q
+next-one (Ok (Some x)) (Ok (Some y)) h =
+    let k : x.kind ≡ y.kind = cc in
+    let p : x.place ≡ y.place = cc in
+    let n : x.length ≡ y.length = cc in
+    λ i. Ok (Some (record { kind = k i; place = p i; length = n i }))
+next-one (Ok (Some x)) (Ok None) h = cc
+next-one (Ok (Some x)) (Err f) h = cc
+next-one (Ok None) (Ok (Some y)) h = cc
+next-one (Ok None) (Ok None) h = refl
+next-one (Ok None) (Err f) h = cc
+next-one (Err e) (Ok (Some y)) h = cc
+next-one (Err e) (Ok None) h = cc
+next-one (Err e) (Err f) h =
+    let n : number e.refusal ≡ number f.refusal = cc in
+    let p : e.place ≡ f.place = cc in
+    ap Err (fault-one e f n p)
 
-pub read-chart-unique : (s : List ℕ) (r q : Reading) → r ≡ read_chart s → q ≡ read_chart s → r ≡ q
-read-chart-unique s r q = one_answer
+pub answer-unique : (s : List ℕ) (at before : ℕ) (r q : Result (Option Record) Fault) → Answers (next_of r) s at before → Answers (next_of q) s at before → r ≡ q
+answer-unique s at before r q a b = next-one r q (record-at-unique s at before _ _ a b)
 
--- a reading taken apart: the answer beside the tables, and the tables
-abbrev answer_of : Reading → Read
-answer_of r = let c = r.chart in record {
-  code = r.code;
-  place = r.place;
-  steps = c.steps;
-  actions = c.actions;
-  transitions = c.transitions;
-  blocks = c.blocks;
-  cases = c.cases;
-  edition = c.edition;
-}
+-- into a lent chart: the answer, and what the chart is then
+reading-one : {A : Type 0} (same : (x y : A) → x ≡ y) (r q : Result A Fault) (c d : Chart) → reading_in r c ≡ reading_in q d → (r ≡ q) × (c ≡ d)
+reading-one same (Ok x) (Ok y) c d h = (ap Ok (same x y), ap (λ (o : Reading). o.chart) h)
+reading-one same (Ok x) (Err f) c d h = absurd (number-some f.refusal (sym (ap (λ (o : Reading). o.code) h)))
+reading-one same (Err e) (Ok y) c d h = absurd (number-some e.refusal (ap (λ (o : Reading). o.code) h))
+reading-one same (Err e) (Err f) c d h =
+    (ap Err (fault-one e f (ap (λ (o : Reading). o.code) h) (ap (λ (o : Reading). o.place) h)), ap (λ (o : Reading). o.chart) h)
 
-abbrev tables_of : Reading → Tables
-tables_of r = let c = r.chart in (c.initial, c.output, c.value, c.sources, c.targets, c.on, c.off, c.wait, c.blockstep, c.blockaction, c.qualifier, c.duration, c.casestep, c.signal, c.expected)
+pub read-into-unique : (s : List ℕ) (r q : Result (Unit {0}) Fault) (c d : Chart) → reading_in r c ≡ read_chart s → reading_in q d ≡ read_chart s → (r ≡ q) × (c ≡ d)
+read-into-unique s r q c d a b = reading-one (λ x y. refl) r q c d (one_answer a b)
 
-pub read-into-unique : (s : List ℕ) (r q : Read) (f g : Tables) → reading_of r f ≡ read_chart s → reading_of q g ≡ read_chart s → (r ≡ q) × (f ≡ g)
-read-into-unique s r q f g a b = let e = one_answer a b in (ap answer_of e, ap tables_of e)
+-- and by value
+pub chart-one : (r q : Result Chart Fault) → reading_of r ≡ reading_of q → r ≡ q
+chart-one (Ok x) (Ok y) h = ap Ok (ap (λ (o : Reading). o.chart) h)
+chart-one (Ok x) (Err f) h = absurd (number-some f.refusal (sym (ap (λ (o : Reading). o.code) h)))
+chart-one (Err e) (Ok y) h = absurd (number-some e.refusal (ap (λ (o : Reading). o.code) h))
+chart-one (Err e) (Err f) h = ap Err (fault-one e f (ap (λ (o : Reading). o.code) h) (ap (λ (o : Reading). o.place) h))
+
+pub read-chart-unique : (s : List ℕ) (r q : Result Chart Fault) → reading_of r ≡ read_chart s → reading_of q ≡ read_chart s → r ≡ q
+read-chart-unique s r q a b = chart-one r q (one_answer a b)

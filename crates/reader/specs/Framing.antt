@@ -2,8 +2,8 @@
 use Rattle.std.specs.Prelude.{ℕ, ◌+◌, ◌-◌, List, [], ◌∷◌, ◌≡◌, cond, length, get_or, leb, eqb}
 use Rattle.fields.specs.Fields.{kind_fits}
 use Rattle.reader.specs.Numbers.{le, numbers_bytes, total}
-use Rattle.reader.specs.declared.framing.Next.{Next}
-use Rattle.reader.specs.declared.framing.Next.TheVariants.{Record, End, Refused}
+use Rattle.reader.specs.Answer.{Next}
+use Rattle.reader.specs.Answer.{Record, End, Refused}
 
 abbrev pub length_at : List ℕ → ℕ → ℕ
 length_at s at = le 2 s at

@@ -1,4 +1,5 @@
 pub mod Numbers
 pub mod Framing
 pub mod Bodies
+pub mod Answer
 pub mod Reading

@@ -1,6 +1,8 @@
 -- "Reading takes records in order and tests each: head (1), 2, 3, body (1), 4, 5, 6, 7. After the end record: 10, 9, 8."
-use Rattle.std.specs.Prelude.{ℕ, zero, suc, ◌+◌, List, cond, ℤ, length, ltb, eqb}
-use Rattle.chart.specs.Chart.{chart_of, empty_chart, no_chart, with_step, with_action, with_transition, with_block, with_case, with_edition}
+use Rattle.std.specs.Prelude.{ℕ, zero, suc, ◌+◌, List, ◌≡◌, Result, cond, length, ltb, eqb}
+use Rattle.refusals.specs.declared.Refusal.{Refusal}
+use Rattle.refusals.specs.Refusals.{code_of}
+use Rattle.chart.specs.Chart.{empty_chart, no_chart, with_step, with_action, with_transition, with_block, with_case, with_edition}
 use Rattle.chart.specs.Held.{closing_code}
 use Rattle.chart.specs.declared.chart.Chart.{Chart}
 use Rattle.reader.specs.Framing.{length_at, kind_at, record_number}
@@ -8,8 +10,7 @@ use Rattle.judging.specs.Judging.{body_code}
 use Rattle.reader.specs.Bodies.{body_at}
 use Rattle.judging.specs.declared.Body.{Body}
 use Rattle.judging.specs.declared.Body.TheVariants.{Step, Action, Transition, Block, Case, Edition}
-use Rattle.reader.specs.declared.reading.Read.{Read}
-use Rattle.reader.specs.declared.reading.Reading.{Reading}
+use Rattle.reader.specs.Answer.{Reading}
 
 -- "A refused reading returns an all-zero chart and a place"
 abbrev pub refused : ℕ → ℕ → Reading
@@ -40,6 +41,11 @@ with_body c (Edition x) = with_edition c x
 abbrev pub number_in : Chart → Body → ℕ
 number_in c body = body_code c.steps c.actions c.transitions c.blocks c.cases c.edition body
 
+-- a body b judged and put into the chart c: the answer, and the chart d then
+pub record Takes (r : Result (Unit {0}) Refusal) (c d : Chart) (b : Body) : Type 0 where
+  pub number : code_of r ≡ number_in c b
+  pub chart : code_of r ≡ 0 → d ≡ with_body c b
+
 -- a record with a whole head and body: `onward` reads on with it put in; "the record's first byte for 1 to 7"
 abbrev pub taken : ℕ → Chart → Body → (Chart → Reading) → Reading
 taken at c body onward = cond (eqb (number_in c body) 0) (onward (with_body c body)) (refused (number_in c body) at)
@@ -56,16 +62,3 @@ read_from (suc more) s at before c =
 -- a record takes four bytes or more, so there are no more records than bytes; document 02, request (viii): "absent means edition 1"
 abbrev pub read_chart : List ℕ → Reading
 read_chart s = read_from (length s + 1) s 0 0 (empty_chart 1)
-
--- the tables that are lent to a reading, in the order of the chart's fields
-abbrev pub Tables : Type 0
-Tables =
-    List ℕ × List ℕ × List ℤ × List ℕ × List ℕ × List ℕ × List ℕ × List ℕ × List ℕ × List ℕ × List ℕ × List ℕ × List ℕ × List ℕ × List ℕ
-
--- a reading into lent tables: its answer, and the chart that they hold
-abbrev pub reading_of : Read → Tables → Reading
-reading_of r (initial, output, value, sources, targets, on, off, wait, blockstep, blockaction, qualifier, duration, casestep, signal, expected) = record {
-  code = r.code;
-  place = r.place;
-  chart = chart_of r.steps r.actions r.transitions r.blocks r.cases initial output value sources targets on off wait blockstep blockaction qualifier duration casestep signal expected r.edition;
-}

@@ -1,22 +1,25 @@
 // One record: its head, and where its body stands (document 01, "A manufacturer's tool may take the reader by itself").
 ghost use Rattle.std.specs.Prelude.{◌≡◌};
+ghost use Rattle.refusals.specs.Refusals.{code_of};
 ghost use Rattle.reader.specs.Framing.{body_length, head_number, Answers};
+ghost use Rattle.reader.specs.Answer.{next_of};
 
-use crate::codes::{BAD_KIND, BAD_LENGTH, CUT};
 use crate::numbers;
+use refusals::Refusal;
 
-#[derive(Clone, Copy)]
-pub enum Next {
-    Record {
-        kind: u16,
-        place: usize,
-        length: usize,
-    },
-    End,
-    Refused {
-        code: u8,
-        place: usize,
-    },
+// Why a file is refused, and the place that says where.
+#[derive(Clone, Copy, Debug, PartialEq, Eq)]
+pub struct Fault {
+    pub refusal: Refusal,
+    pub place: usize,
+}
+
+// Its kind by number, since the kind before it is lent as one; where its body stands, and how long that is.
+#[derive(Clone, Copy, Debug, PartialEq, Eq)]
+pub struct Record {
+    pub kind: u16,
+    pub place: usize,
+    pub length: usize,
 }
 
 fn body_length(kind: u16) -> u16
@@ -33,58 +36,46 @@ fn body_length(kind: u16) -> u16
     }
 }
 
-fn head_code(length: u16, kind: u16, rest: usize, before: u16) -> u8
-    ensures { result ≡ head_number length kind rest before }
+fn check_head(length: u16, kind: u16, rest: usize, before: u16) -> Result<(), Refusal>
+    ensures { code_of result ≡ head_number length kind rest before }
 {
     // The end is told apart first, so that no test of the others asks for it.
     if kind == 0 {
-        if length != 0 {
-            return BAD_LENGTH;
-        }
-        return 0;
+        return refusals::unless(length == 0, Refusal::BadLength);
     }
     if !fields::kind_fits(kind, before) {
-        return BAD_KIND;
+        return Err(Refusal::BadKind);
     }
     if length != body_length(kind) {
-        return BAD_LENGTH;
+        return Err(Refusal::BadLength);
     }
-    if rest < length as usize {
-        return CUT;
-    }
-    0
+    refusals::unless(length as usize <= rest, Refusal::Cut)
 }
 
-pub fn record_at(bytes: &[u8], at: usize, before: u16) -> Next
-    ensures { Answers result bytes.now at before }
+// What stands at a place: a record, or the end.
+pub fn record_at(bytes: &[u8], at: usize, before: u16) -> Result<Option<Record>, Fault>
+    ensures { Answers (next_of result) bytes.now at before }
 {
     // The place is compared with where the last head may stand, which does not change from record to record.
     let size = bytes.len();
-    if size < 4 {
-        return Next::Refused {
-            code: CUT,
+    if size < 4 || size - 4 < at {
+        return Err(Fault {
+            refusal: Refusal::Cut,
             place: at,
-        };
-    }
-    if size - 4 < at {
-        return Next::Refused {
-            code: CUT,
-            place: at,
-        };
+        });
     }
     let place = at + 4;
     let length = numbers::u16_at(bytes, at);
     let kind = numbers::u16_at(bytes, at + 2);
-    let code = head_code(length, kind, size - place, before);
-    if code != 0 {
-        return Next::Refused { code, place: at };
+    if let Err(refusal) = check_head(length, kind, size - place, before) {
+        return Err(Fault { refusal, place: at });
     }
     if kind == 0 {
-        return Next::End;
+        return Ok(None);
     }
-    Next::Record {
+    Ok(Some(Record {
         kind,
         place,
         length: length as usize,
-    }
+    }))
 }

@@ -2,10 +2,9 @@
 #![tactic(auto)]
 
 pub mod bodies;
-pub mod codes;
 pub mod framing;
 pub mod numbers;
 pub mod reading;
 
-pub use framing::{Next, record_at};
-pub use reading::{Read, Reading, read_chart, read_into};
+pub use framing::{Fault, Record, record_at};
+pub use reading::{read_chart, read_into};

@@ -5,11 +5,11 @@ use mathlib.Core.Path.{◌≡◌, sym, ap, subst, ◌∙◌}
 use lib.ListN.{length}
 use native.Mathlib.Omega.{arith}
 use Rattle.reader.specs.Framing.{place_after}
-use Rattle.reader.specs.declared.framing.Next.{Next}
-use Rattle.reader.specs.declared.framing.Next.TheVariants.{Record, Refused}
+use Rattle.reader.specs.Answer.{Next}
+use Rattle.reader.specs.Answer.{Record, Refused}
 use Rattle.reader.proofs.framing.Laws.{is_found, Stopped, stays, beyond}
 use Rattle.records.specs.Asking.{Finds, Asks}
-use Rattle.records.specs.declared.Found.{Found}
+use Rattle.records.specs.Answer.{Found}
 use Rattle.records.specs.declared.Records.{Records}
 use Rattle.records.proofs.Unique.{record-from-unique, next-record-unique}
 

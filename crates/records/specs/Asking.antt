@@ -2,8 +2,8 @@
 use Rattle.std.specs.Prelude.{ℕ, List, ◌≡◌}
 use Rattle.std.specs.Borrow.{Bor}
 use Rattle.reader.specs.Framing.{Answers, place_after, kind_after}
-use Rattle.reader.specs.declared.framing.Next.{Next}
-use Rattle.records.specs.declared.Found.{Found}
+use Rattle.reader.specs.Answer.{Next}
+use Rattle.records.specs.Answer.{Found}
 use Rattle.records.specs.declared.Records.{Records}
 
 -- what stands at a place, and where the next question goes: "After the end or a refusal it doesn't move"

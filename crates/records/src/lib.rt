@@ -2,9 +2,10 @@
 #![tactic(auto)]
 
 ghost use Rattle.std.specs.Prelude.{◌≡◌};
+ghost use Rattle.reader.specs.Answer.{next_of};
 ghost use Rattle.records.specs.Asking.{opening, Finds, Asks};
 
-use reader::Next;
+use reader::{Fault, Record};
 
 #[derive(Clone, Copy)]
 pub struct Records<'a> {
@@ -13,63 +14,32 @@ pub struct Records<'a> {
     pub before: u16,
 }
 
-// An answer, with the place and the kind before for the next question.
-#[derive(Clone, Copy)]
-pub struct Found {
-    pub answer: Next,
-    pub at: usize,
-    pub before: u16,
-}
-
-fn found_at(bytes: &[u8], at: usize, before: u16) -> Found
-    ensures { Finds result bytes.now at before }
-{
-    let answer = reader::record_at(bytes, at, before);
-    match answer {
-        Next::Record {
-            kind,
-            place,
-            length,
-        } => {
-            let after = place + length;
-            Found {
-                answer,
-                at: after,
-                before: kind,
-            }
+impl<'a> Records<'a> {
+    pub fn opened(bytes: &'a [u8]) -> Records<'a>
+        ensures { result ≡ opening bytes.entry }
+    {
+        Records {
+            bytes,
+            at: 0,
+            before: 0,
         }
-        _ => Found { answer, at, before },
+    }
+
+    pub fn next_record(&mut self) -> Result<Option<Record>, Fault>
+        ensures { Asks (next_of result) self.old self.new }
+    {
+        record_from(self.bytes, &mut self.at, &mut self.before)
     }
 }
 
-pub fn opened<'a>(bytes: &'a [u8]) -> Records<'a>
-    ensures { result ≡ opening bytes.entry }
+// The same for a caller that has no `Records`: the place and the kind before are lent.
+pub fn record_from(bytes: &[u8], at: &mut usize, before: &mut u16) -> Result<Option<Record>, Fault>
+    ensures { Finds (record { answer = next_of result; at = at.new; before = before.new }) bytes.now at.old before.old }
 {
-    Records {
-        bytes,
-        at: 0,
-        before: 0,
+    let found = reader::record_at(bytes, *at, *before)?;
+    if let Some(record) = found {
+        *at = record.place + record.length;
+        *before = record.kind;
     }
-}
-
-pub fn next_record<'s, 'a>(r: &'s mut Records<'a>) -> Next
-    ensures { Asks result r.old r.new }
-{
-    let found = found_at(r.bytes, r.at, r.before);
-    r.at = found.at;
-    r.before = found.before;
-    found.answer
-}
-
-// The same with plain parameters, for a caller that lends no `Records`.
-pub fn record_from(bytes: &[u8], at: usize, before: u16) -> Found
-    ensures { Finds result bytes.now at before }
-{
-    let mut r = Records { bytes, at, before };
-    let answer = next_record(&mut r);
-    Found {
-        answer,
-        at: r.at,
-        before: r.before,
-    }
+    Ok(found)
 }

@@ -7,7 +7,7 @@ use Rattle.sets.proofs.Unique.{one_answer}
 use Rattle.chart.specs.declared.chart.Chart.{Chart}
 use Rattle.report.specs.Printing.{opening, printed_of, line_after}
 use Rattle.report.specs.declared.printing.Standing.{Standing}
-use Rattle.report.specs.declared.printing.Printed.{Printed}
+use Rattle.report.specs.Answer.{Printed}
 
 pub opening-unique : (r q : Standing) → r ≡ opening → q ≡ opening → r ≡ q
 opening-unique r q = one_answer

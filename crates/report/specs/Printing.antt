@@ -6,16 +6,16 @@ use Rattle.reader.specs.Reading.{read_chart}
 use Rattle.run.specs.Run.{no_run}
 use Rattle.run.specs.declared.run.Run.{Run}
 use Rattle.cycle.specs.Cycling.{start_of, cycle_of}
-use Rattle.cycle.specs.declared.cycling.Cycled.{Cycled}
+use Rattle.cycle.specs.Answer.{Cycled}
 use Rattle.trace.specs.Tracing.{call_at}
-use Rattle.trace.specs.declared.tracing.Call.{Call}
-use Rattle.trace.specs.declared.tracing.Call.TheVariants.{Start, Cycle, End, Refused}
+use Rattle.trace.specs.Answer.{Call}
+use Rattle.trace.specs.Answer.{Start, Cycle, End, Refused}
 use Rattle.tally.specs.Tallying.{tally_of}
-use Rattle.tally.specs.declared.tallying.Tallied.{Tallied}
+use Rattle.tally.specs.Answer.{Tallied}
 use Rattle.lines.specs.Lines.{chart_line}
 use Rattle.report.specs.Wording.{accepted_line, refused_line, reasons_line, trace_line, tally_line}
 use Rattle.report.specs.declared.printing.Standing.{Standing}
-use Rattle.report.specs.declared.printing.Printed.{Printed}
+use Rattle.report.specs.Answer.{Printed}
 
 -- ---- the lines of a call and of the end
 

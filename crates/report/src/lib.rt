@@ -4,4 +4,4 @@
 pub mod printing;
 pub mod wording;
 
-pub use printing::{Printed, Standing, opening, print_next};
+pub use printing::{Standing, opening, print_next};

@@ -2,7 +2,7 @@
 use Rattle.std.specs.Prelude.{ℕ, List, get_or}
 use Rattle.sets.specs.Loops.{table}
 use Rattle.run.specs.Run.{counter, timer}
-use Rattle.run.specs.declared.apart.Words.{Words}
+use Rattle.run.specs.Answer.{Words}
 use Rattle.run.specs.declared.run.StepCounter.{StepCounter}
 use Rattle.run.specs.declared.run.ActionTimer.{ActionTimer}
 use Rattle.run.specs.declared.run.Run.{Run}

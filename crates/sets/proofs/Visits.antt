@@ -75,36 +75,40 @@ module _ {P : ℕ → Type 0} {n s : ℕ} where
           go j l t true q = rw (eqb-true j k q) new
           go j l t false q = old j (eqb-false j k q) (v.passed j l (and_yes (has rest j) ∙ rw q at t))
 
--- a list of n numbers, as `old` at first, that is changed at the members of s: those still to be visited are as they were, and each other one is
--- what it is to be
-pub record Changed (g : ℕ → ℕ) (old : List ℕ) (n s rest : ℕ) (l : List ℕ) : Type 0 where
+-- a list of n entries, as `old` at first, that is changed at the members of s: those still to be visited are as they were, and each other one is
+-- what it is to be. d is what stands beyond its end
+pub record ChangedFrom {A : Type 0} (d : A) (g : ℕ → A) (old : List A) (n s rest : ℕ) (l : List A) : Type 0 where
   pub long : length l ≡ n
-  pub visited : Visited (λ j. get_or l j 0 ≡ g j) n s rest
-  pub unseen : (j : ℕ) → j < n → has rest j ≡ true → get_or l j 0 ≡ get_or old j 0
+  pub visited : Visited (λ j. get_or l j d ≡ g j) n s rest
+  pub unseen : (j : ℕ) → j < n → has rest j ≡ true → get_or l j d ≡ get_or old j d
 
-module _ {g : ℕ → ℕ} {old : List ℕ} {n s : ℕ} where
-  pub changed-rest : n ≤ 64 → length old ≡ n → ((j : ℕ) → j < n → has s j ≡ false → get_or old j 0 ≡ g j) → Changed g old n s (s % 2 ^ n) old
+-- a list of numbers
+abbrev pub Changed : (ℕ → ℕ) → List ℕ → ℕ → ℕ → ℕ → List ℕ → Type 0
+Changed g old n s rest l = ChangedFrom 0 g old n s rest l
+
+module _ {A : Type 0} {d : A} {g : ℕ → A} {old : List A} {n s : ℕ} where
+  pub changed-rest : n ≤ 64 → length old ≡ n → ((j : ℕ) → j < n → has s j ≡ false → get_or old j d ≡ g j) → ChangedFrom d g old n s (s % 2 ^ n) old
   changed-rest a h f = record { long = h; visited = visited-rest a f; unseen = λ j l e. refl }
 
-  pub changed-start : n ≤ 64 → s < 2 ^ n → length old ≡ n → ((j : ℕ) → j < n → has s j ≡ false → get_or old j 0 ≡ g j) → Changed g old n s s old
+  pub changed-start : n ≤ 64 → s < 2 ^ n → length old ≡ n → ((j : ℕ) → j < n → has s j ≡ false → get_or old j d ≡ g j) → ChangedFrom d g old n s s old
   changed-start a b h f = rw (mod-eq_of_lt b) at (changed-rest a h f)
 
-  module _ {rest k : ℕ} {l : List ℕ} (w : Changed g old n s rest l) (z : rest ≡ 0 → ⊥) (e : k ≡ first rest) where
+  module _ {rest k : ℕ} {l : List A} (w : ChangedFrom d g old n s rest l) (z : rest ≡ 0 → ⊥) (e : k ≡ first rest) where
     -- what is visited is as it was
-    pub change-old : get_or l k 0 ≡ get_or old k 0
+    pub change-old : get_or l k d ≡ get_or old k d
     change-old = w.unseen k (visit-lt w.visited z e) (visit-rest w.visited z e)
 
-    pub changed-turn : {next v : ℕ} → next ≡ remove rest (first rest) → v ≡ g k → Changed g old n s next (set l k v)
+    pub changed-turn : {next : ℕ} {v : A} → next ≡ remove rest (first rest) → v ≡ g k → ChangedFrom d g old n s next (set l k v)
     changed-turn {next} {v} f h = record {
       long = length-set l k v ∙ w.long;
       visited = visited-turn w.visited z e f
-          (λ j q p. get_or-set_other l k j v 0 q ∙ p)
-          (get_or-set_same l k v 0 (rw w.long (visit-lt w.visited z e)) ∙ h);
-      unseen = λ j m t. let o = visit-other w.visited z e f j m t in get_or-set_other l k j v 0 o.0 ∙ w.unseen j m o.1;
+          (λ j q p. get_or-set_other l k j v d q ∙ p)
+          (get_or-set_same l k v d (rw w.long (visit-lt w.visited z e)) ∙ h);
+      unseen = λ j m t. let o = visit-other w.visited z e f j m t in get_or-set_other l k j v d o.0 ∙ w.unseen j m o.1;
     }
 
-  pub changed-end : {rest : ℕ} {l : List ℕ} → Changed g old n s rest l → rest ≡ 0 → l ≡ table g n
-  changed-end {rest} {l} w z = is-table g n l 0 w.long (visited-end w.visited z)
+  pub changed-end : {rest : ℕ} {l : List A} → ChangedFrom d g old n s rest l → rest ≡ 0 → l ≡ table g n
+  changed-end {rest} {l} w z = is-table g n l d w.long (visited-end w.visited z)
 
 -- a sum of n numbers, those of f at first, that is made less at the members of s: of each one still to be visited it has f's number, of each other
 -- one g's

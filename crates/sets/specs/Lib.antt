@@ -1,3 +1,4 @@
 pub mod Bytes
 pub mod Loops
 pub mod Sets
+pub mod Visiting

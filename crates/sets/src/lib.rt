@@ -2,7 +2,9 @@
 #![tactic(auto)]
 
 ghost use Rattle.std.specs.Prelude.{◌%◌, ◌≡◌, cond};
+ghost use Rattle.std.specs.Iterator.{at_most};
 ghost use Rattle.sets.specs.Sets.{has, Within, Apart, Below, union, inter, minus, insert, beyond, first, remove, size};
+ghost use Rattle.sets.specs.Visiting.{Visits};
 
 pub fn is_in(s: u64, k: usize) -> bool
     ensures { result ≡ has s k }
@@ -98,7 +100,6 @@ pub fn size(s: u64) -> usize
     u64::count_ones(s) as usize
 }
 
-// A loop over the members of a set asks for its first, then goes on without it.
 pub fn first(s: u64) -> usize
     ensures { result ≡ first s }
 {
@@ -112,4 +113,34 @@ pub fn without_first(s: u64) -> u64
         return 0;
     }
     s & (s - 1)
+}
+
+// A loop over the members of a set, the least first: those still to come.
+#[derive(Clone, Copy)]
+pub struct Unvisited {
+    pub rest: u64,
+}
+
+// `for k in sets::each(s)` goes over the members of s.
+pub fn each(s: u64) -> Unvisited
+    ensures { result.rest ≡ s }
+{
+    Unvisited { rest: s }
+}
+
+impl Iterator for Unvisited {
+    type Item = usize;
+
+    ghost next_gives = { Visits };
+
+    ghost remaining = { λ s. at_most s.rest };
+
+    fn next(&mut self) -> Option<usize> {
+        if self.rest == 0 {
+            return None;
+        }
+        let k = first(self.rest);
+        self.rest = without_first(self.rest);
+        Some(k)
+    }
 }

@@ -10,7 +10,7 @@ use Rattle.chart.specs.declared.chart.Chart.{Chart}
 use Rattle.run.specs.declared.run.Run.{Run}
 use Rattle.cycle.specs.Cycling.{ready_code, indexed_code}
 use Rattle.cycle.specs.Calling.{Calls, singly}
-use Rattle.shift.specs.declared.shifting.Shifted.{Shifted}
+use Rattle.shift.specs.Answer.{Shifted}
 
 -- a shift's answer, its activity words and its outputs
 abbrev pub Done : Type 0

@@ -2,7 +2,6 @@
 #![tactic(auto)]
 
 pub mod calling;
-pub mod lying;
 pub mod stepping;
 
 pub use calling::cycles_on;

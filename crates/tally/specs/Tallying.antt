@@ -5,7 +5,7 @@ use Rattle.sets.specs.Sets.{has}
 use Rattle.chart.specs.declared.chart.Chart.{Chart}
 use Rattle.run.specs.Belongs.{own_code}
 use Rattle.run.specs.declared.run.Run.{Run}
-use Rattle.tally.specs.declared.tallying.Tallied.{Tallied}
+use Rattle.tally.specs.Answer.{Tallied}
 
 -- case k of a run with these marks
 abbrev pub is_failed : ℕ → ℕ → ℕ → Bool

@@ -6,7 +6,7 @@ use Rattle.fields.specs.Fields.{unless}
 use Rattle.chart.specs.Held.{chart_code}
 use Rattle.chart.specs.Initial.{initial_set}
 use Rattle.chart.specs.declared.chart.Chart.{Chart}
-use Rattle.tally.specs.declared.weighing.Weighed.{Weighed}
+use Rattle.tally.specs.Answer.{Weighed}
 
 -- what the steps of a set weigh together, step k weighing w k
 abbrev pub weight : (ℕ → ℕ) → ℕ → ℕ

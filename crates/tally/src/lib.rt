@@ -1,9 +1,10 @@
 // What the assessor signs: the tally and the weighing (document 01, "Tally").
 #![tactic(auto)]
 
-pub mod codes;
+pub mod answer;
 pub mod tallying;
 pub mod weighing;
 
-pub use tallying::{Tallied, tally, tally_on};
-pub use weighing::{Weighed, weigh, weigh_on, weight_in};
+pub use answer::{Tally, Unweighed};
+pub use tallying::tally;
+pub use weighing::{weigh, weight_in};

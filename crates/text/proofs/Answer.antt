@@ -12,14 +12,14 @@ use borrow.Author.Tests.{ltb-true}
 use Rattle.chart.specs.Chart.{empty_chart}
 use Rattle.chart.specs.declared.chart.Chart.{Chart}
 use Rattle.reader.specs.Reading.{refused, with_body}
-use Rattle.reader.specs.declared.reading.Reading.{Reading}
+use Rattle.reader.specs.Answer.{Reading}
 use Rattle.forms.specs.Table.{at, Move, halt, go, move, Outcome, read, stopped, push, turn, final, run}
 use Rattle.grammar.specs.Meaning.{Said, a_step, a_block, a_transition, text_says}
 use Rattle.grammar.specs.Answer.{body_of, with_all, reach, in_order, answer_of, Answers, says, stops}
 use Rattle.grammar.specs.Pen.{Pen, penned, said_at, said_over, blank_pen, step_with, block_with, transition_with, settled}
 use Rattle.grammar.proofs.Reader.{table, read_right, stops-right}
 use Rattle.grammar.proofs.Saying.{says-text}
-use Rattle.text.specs.declared.saying.Stray.{Stray}
+use Rattle.text.specs.Answer.{Stray}
 use Rattle.text.specs.Scan.{clip, next_of, role_of, no_stray, stray_in, finished, scan}
 use Rattle.text.proofs.Clipping.{clip-again, clip-small, answer-cut}
 use Rattle.text.proofs.Dense.{told, dense, finals}
@@ -46,7 +46,7 @@ one-if p false true z = inr (block_with p.line p.number, refl)
 one-if p false false true = inr (transition_with (settled p), refl)
 one-if p false false false = inl refl
 
-one_at_most : (r : ℕ) (p : Pen) → (said_at r p ≡ []) ⊎ ((x : Said) × (said_at r p ≡ x ∷ []))
+pub one_at_most : (r : ℕ) (p : Pen) → (said_at r p ≡ []) ⊎ ((x : Said) × (said_at r p ≡ x ∷ []))
 one_at_most r p = one-if p (eqb r 12) (eqb r 13) (eqb r 14)
 
 ended-more : (m : List Said) → (m ≡ []) ⊎ ((x : Said) × (m ≡ x ∷ [])) → (o : Stray) (n : ℕ) (c : Chart) (l : List Said)

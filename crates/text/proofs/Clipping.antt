@@ -17,7 +17,7 @@ use Rattle.chart.specs.Held.{block_fits_at, blocks_code, held_code, chart_code}
 use Rattle.chart.specs.declared.chart.Chart.{Chart}
 use Rattle.chart.proofs.held.Sound.{fits, block-fits, is_zero}
 use Rattle.reader.specs.Reading.{refused, closed, with_body}
-use Rattle.reader.specs.declared.reading.Reading.{Reading}
+use Rattle.reader.specs.Answer.{Reading}
 use Rattle.grammar.specs.Meaning.{Said, a_step, a_block, a_transition}
 use Rattle.grammar.specs.Answer.{body_of, with_all, reach, with_actions, chart_said, in_order, answer_of}
 use Rattle.grammar.specs.Pen.{all_clipped}

@@ -56,11 +56,15 @@ pub next-at : (b q : ℕ) → q < 161 → get_or nexts (bit_or (get_or columns b
 next-at b q h =
     any-default nexts (bit_or (get_or columns b 0) q) 0 161 (omega (arith, nexts-many, place-within b q h)) ∙ ap (λ (i : ℕ). get_or nexts i 161) (or-sum b q h)
 
--- the roles of the states, by the bounds that the reading goes by
+-- the states that are reached in no role
 all-silent : span (λ k. eqb (role_of k) 0) 0 95 ≡ true
 unfolding span roles
 all-silent = refl
 
+pub silent-role : (q : ℕ) → q < 95 → role_of q ≡ 0
+silent-role q h = eqb-true (role_of q) 0 (span-at (λ k. eqb (role_of k) 0) 95 0 q all-silent (omega arith) (omega arith))
+
+-- by a number's first digit, and by another
 all_first : span (λ k. eqb (role_of k) 1) 95 29 ≡ true
 unfolding span roles
 all_first = refl
@@ -69,27 +73,18 @@ all_digits : span (λ k. eqb (role_of k) 2) 124 10 ≡ true
 unfolding span roles
 all_digits = refl
 
-all-names : span (λ k. leb 3 (role_of k) && leb (role_of k) 6) 134 8 ≡ true
-unfolding span roles
-all-names = refl
-
-all_others : span (λ k. leb 7 (role_of k)) 142 19 ≡ true
-unfolding span roles
-all_others = refl
-
-pub silent-role : (q : ℕ) → q < 95 → role_of q ≡ 0
-silent-role q h = eqb-true (role_of q) 0 (span-at (λ k. eqb (role_of k) 0) 95 0 q all-silent (omega arith) (omega arith))
-
 pub first-role : (q : ℕ) → 95 ≤ q → q < 124 → role_of q ≡ 1
 first-role q l h = eqb-true (role_of q) 1 (span-at (λ k. eqb (role_of k) 1) 29 95 q all_first l (omega arith))
 
 pub digit-role : (q : ℕ) → 124 ≤ q → q < 134 → role_of q ≡ 2
 digit-role q l h = eqb-true (role_of q) 2 (span-at (λ k. eqb (role_of k) 2) 10 124 q all_digits l (omega arith))
 
+-- by a name that goes into a set
+all-names : span (λ k. leb 3 (role_of k) && leb (role_of k) 6) 134 8 ≡ true
+unfolding span roles
+all-names = refl
+
 pub name-role : (q : ℕ) → 134 ≤ q → q < 142 → (3 ≤ role_of q) × (role_of q ≤ 6)
 name-role q l h =
     let e = and-true (leb 3 (role_of q)) (leb (role_of q) 6) (span-at (λ k. leb 3 (role_of k) && leb (role_of k) 6) 8 134 q all-names l (omega arith)) in
     (leb-true 3 (role_of q) e.0, leb-true (role_of q) 6 e.1)
-
-pub other-role : (q : ℕ) → 142 ≤ q → q < 161 → 7 ≤ role_of q
-other-role q l h = leb-true 7 (role_of q) (span-at (λ k. leb 7 (role_of k)) 19 142 q all_others l (omega arith))

@@ -2,9 +2,9 @@
 #![tactic(auto)]
 
 pub mod closing;
-pub mod codes;
 pub mod pen;
 pub mod reading;
+mod roles;
 pub mod saying;
 pub mod states;
 mod table;

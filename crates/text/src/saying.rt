@@ -1,108 +1,131 @@
-// What a text says, where the chart has it: a table with one more, if it has that place.
-ghost use Rattle.std.specs.Prelude.{◌≡◌, ◌+◌, ◌≤◌, ◌%◌, max, pos, set};
-ghost use Rattle.text.specs.Scan.{stray_at};
+// What a text says, where the chart has it. It may say more than a chart holds, which the chart's own test refuses: a record is counted, and stored if
+// the tables have its place.
+ghost use Rattle.std.specs.Prelude.{◌≡◌, ◌<◌, ◌≤◌, ◌%◌, ◌^◌, set};
+ghost use Rattle.chart.specs.Chart.{empty_chart, with_step, with_action, with_transition, with_block};
+ghost use Rattle.grammar.specs.Answer.{with_all, reach};
+ghost use Rattle.grammar.specs.Pen.{said_at};
+ghost use Rattle.text.specs.Answer.{stray_of, pen_of};
+ghost use Rattle.text.specs.Scan.{stray_in};
 
-// Whether a step is not named by its number, and the place of the first such name.
-#[derive(Clone, Copy)]
-pub struct Stray {
-    pub found: bool,
-    pub place: usize,
-}
+use crate::pen::Pen;
+use crate::roles::{ACTED, NAMED, PASSED};
+use chart::Chart;
+use fields::{Action, Block, Transition};
 
-pub(crate) fn stray_at(o: Stray, n: usize, number: u64, place: usize) -> Stray
-    ensures { result ≡ stray_at o n number place }
+fn put<T: Copy, const N: usize>(table: &mut [T; N], at: usize, x: T)
+    ensures { table.new ≡ set table.old at x }
 {
-    if o.found {
-        return o;
+    if at < N {
+        table[at] = x;
     }
-    if number as usize == n {
-        return o;
-    }
-    Stray { found: true, place }
 }
 
-fn low_byte(n: u64) -> u8
+fn low_byte(n: u32) -> u8
     ensures { result ≡ n % 256 }
 {
     (n % 256) as u8
 }
 
-fn store_byte(table: &mut [u8], at: usize, x: u64)
-    ensures { table.new ≡ set table.old at (x % 256) }
+fn push_step(chart: &mut Chart, initial: u8)
+    requires { chart.old.steps < 2 ^ 63 }
+    ensures { chart.new ≡ with_step chart.old initial }
 {
-    if at < table.len() {
-        table[at] = low_byte(x);
+    put(&mut chart.initial, chart.steps, initial);
+    chart.steps += 1;
+}
+
+pub(crate) fn push_action(chart: &mut Chart, action: Action)
+    requires { chart.old.actions < 2 ^ 63 }
+    ensures { chart.new ≡ with_action chart.old action.output action.value }
+{
+    put(&mut chart.output, chart.actions, action.output);
+    put(&mut chart.value, chart.actions, action.value);
+    chart.actions += 1;
+}
+
+fn push_transition(chart: &mut Chart, transition: Transition)
+    requires { chart.old.transitions < 2 ^ 63 }
+    ensures { chart.new ≡ with_transition chart.old transition.sources transition.targets transition.on transition.off transition.wait }
+{
+    let t = chart.transitions;
+    put(&mut chart.sources, t, transition.sources);
+    put(&mut chart.targets, t, transition.targets);
+    put(&mut chart.on, t, transition.on);
+    put(&mut chart.off, t, transition.off);
+    put(&mut chart.wait, t, transition.wait);
+    chart.transitions += 1;
+}
+
+fn push_block(chart: &mut Chart, block: Block)
+    requires { chart.old.blocks < 2 ^ 63 }
+    ensures { chart.new ≡ with_block chart.old block.step block.action block.qualifier block.duration }
+{
+    let i = chart.blocks;
+    put(&mut chart.blockstep, i, block.step);
+    put(&mut chart.blockaction, i, block.action);
+    put(&mut chart.qualifier, i, block.qualifier);
+    put(&mut chart.duration, i, block.duration);
+    chart.blocks += 1;
+}
+
+// The chart that a text says so far, without its actions; how many these are; and the place of the first step that is not named by its number.
+#[derive(Clone, Copy)]
+pub struct Draft {
+    pub stray: Option<usize>,
+    pub actions: usize,
+    pub chart: Chart,
+}
+
+impl Draft {
+    pub(crate) fn new() -> Draft
+        ensures { result ≡ record { stray = None; actions = 0; chart = empty_chart 1 } }
+    {
+        Draft {
+            stray: None,
+            actions: 0,
+            chart: Chart::empty(1),
+        }
     }
-}
 
-fn store_set(table: &mut [u64], at: usize, x: u64)
-    ensures { table.new ≡ set table.old at x }
-{
-    if at < table.len() {
-        table[at] = x;
+    // What a byte in a role says: a step that is named, a block, a transition, or nothing.
+    #[tactic(auto, unfolding(grammar::specs::Answer::with_all, grammar::specs::Answer::reach))]
+    pub(crate) fn say(&mut self, role: u8, pen: &Pen)
+        requires { (self.old.actions ≤ 256) × (self.old.chart.steps < 2 ^ 63) × (self.old.chart.transitions < 2 ^ 63) × (self.old.chart.blocks < 2 ^ 63) }
+        ensures stray { stray_of self.new.stray ≡ stray_in (stray_of self.old.stray) self.old.chart.steps (said_at role (pen_of pen.now)) }
+        ensures actions { (self.new.actions ≡ reach self.old.actions (said_at role (pen_of pen.now))) × (self.new.actions ≤ 256) }
+        ensures chart { self.new.chart ≡ with_all self.old.chart (said_at role (pen_of pen.now)) }
+    {
+        match role {
+            NAMED => {
+                if self.stray.is_none() && pen.number as usize != self.chart.steps {
+                    self.stray = Some(pen.line.place);
+                }
+                push_step(&mut self.chart, pen.line.initial);
+            }
+            ACTED => {
+                let block = Block {
+                    step: low_byte(pen.line.own),
+                    action: low_byte(pen.line.action),
+                    qualifier: pen.line.qualifier,
+                    duration: pen.number,
+                };
+                self.actions = self.actions.max(block.action as usize + 1);
+                push_block(&mut self.chart, block);
+            }
+            PASSED => {
+                let [sources, targets, on, off, _] = pen.settled();
+                push_transition(
+                    &mut self.chart,
+                    Transition {
+                        sources,
+                        targets,
+                        on,
+                        off,
+                        wait: 0,
+                    },
+                );
+            }
+            _ => {}
+        }
     }
-}
-
-fn store_time(table: &mut [u32], at: usize, x: u64)
-    requires { x ≤ 86400001 }
-    ensures { table.new ≡ set table.old at x }
-{
-    if at < table.len() {
-        table[at] = x as u32;
-    }
-}
-
-fn store_one(table: &mut [i32], at: usize)
-    ensures { table.new ≡ set table.old at (pos 1) }
-{
-    if at < table.len() {
-        table[at] = 1;
-    }
-}
-
-// The chart's tables, by their lengths.
-pub(crate) fn put_mark(table: &mut [u8; 64], at: usize, x: u64)
-    ensures { table.new ≡ set table.old at (x % 256) }
-{
-    store_byte(table, at, x);
-}
-
-pub(crate) fn put_byte(table: &mut [u8; 256], at: usize, x: u64)
-    ensures { table.new ≡ set table.old at (x % 256) }
-{
-    store_byte(table, at, x);
-}
-
-pub(crate) fn put_output(table: &mut [u8; 32], at: usize, x: u64)
-    ensures { table.new ≡ set table.old at (x % 256) }
-{
-    store_byte(table, at, x);
-}
-
-pub(crate) fn put_set(table: &mut [u64; 64], at: usize, x: u64)
-    ensures { table.new ≡ set table.old at x }
-{
-    store_set(table, at, x);
-}
-
-pub(crate) fn put_time(table: &mut [u32; 256], at: usize, x: u64)
-    requires { x ≤ 86400001 }
-    ensures { table.new ≡ set table.old at x }
-{
-    store_time(table, at, x);
-}
-
-pub(crate) fn put_one(table: &mut [i32; 32], at: usize)
-    ensures { table.new ≡ set table.old at (pos 1) }
-{
-    store_one(table, at);
-}
-
-// How many actions, with this one.
-pub(crate) fn reached(n: usize, action: u64) -> usize
-    requires { n ≤ 256 }
-    ensures { (result ≡ max n (action % 256 + 1)) × (result ≤ 256) }
-{
-    let m = (action % 256) as usize + 1;
-    if n < m { m } else { n }
 }

@@ -1,55 +1,58 @@
-// The reader's table: a state and a byte give the next state, and a state the role in which it is reached. The tables are lent by the caller, who has
-// them in its own memory once for all bytes.
-ghost use Rattle.std.specs.Prelude.{◌≡◌, ◌<◌, ◌≤◌, ◌-◌, get_or};
-ghost use Rattle.text.specs.Codes.{columns, nexts, roles};
+// The reader's table: a state and a byte give the next state, and a state the role in which it is reached.
+ghost use Rattle.std.specs.Prelude.{◌≡◌, ◌<◌};
+ghost use Rattle.text.specs.Codes.{columns, nexts};
 ghost use Rattle.text.specs.Scan.{next_of, role_of, is_final};
 
-use chart::index_of;
+use crate::table::{COLUMNS, NEXTS, ROLES};
 
-fn wide(x: u16) -> usize
-    ensures { result ≡ x }
-{
-    x as usize
+// The states' numbers are the generated table's (tools/text_table): those that are reached in no role come before this one, those reached by a number's
+// first digit before the next, those by another digit before the third, and those by a name that goes into a set before the fourth.
+pub(crate) const SILENT: usize = 95;
+
+pub(crate) const FIRSTS: usize = 124;
+
+pub(crate) const DIGITS: usize = 134;
+
+pub(crate) const NAMES: usize = 142;
+
+// Where the reader stops.
+pub(crate) const STOP: usize = 161;
+
+// The tables that lead from state to state, lent: so a loop has their addresses in registers, and makes those of statics anew at each byte.
+#[derive(Clone, Copy)]
+pub struct Tables<'a> {
+    pub columns: &'a [u16; 256],
+    pub nexts: &'a [u8; 8609],
 }
 
-// A column begins at a multiple of 256.
-fn column_of(column: &[u16; 256], b: u8) -> usize
-    requires { column.now ≡ columns }
-    ensures { result ≡ get_or columns b 0 }
-{
-    wide(column[index_of(b)])
+impl<'a> Tables<'a> {
+    pub(crate) fn new() -> Tables<'a>
+        ensures { (result.columns.now ≡ columns) × (result.nexts.now ≡ nexts) }
+    {
+        Tables {
+            columns: &COLUMNS,
+            nexts: &NEXTS,
+        }
+    }
+
+    // A column begins at a multiple of 256.
+    pub(crate) fn next_of(&self, state: usize, b: u8) -> usize
+        requires { (self.now.columns.now ≡ columns) × (self.now.nexts.now ≡ nexts) × (state < 161) }
+        ensures { result ≡ next_of state b }
+    {
+        self.nexts[self.columns[b as usize] as usize | state] as usize
+    }
 }
 
-// 161 where the reader stops.
-pub(crate) fn next_of<'a>(
-    column: &'a [u16; 256],
-    next: &'a [u8; 8609],
-    state: usize,
-    b: u8,
-) -> usize
-    requires { (column.now ≡ columns) × (next.now ≡ nexts) × (state < 161) }
-    ensures { result ≡ next_of state b }
-{
-    index_of(next[column_of(column, b) | state])
-}
-
-pub(crate) fn role_of(role: &[u8; 161], state: usize) -> usize
-    requires { (role.now ≡ roles) × (state < 161) }
+pub(crate) fn role_of(state: usize) -> u8
+    requires { state < 161 }
     ensures { result ≡ role_of state }
 {
-    index_of(role[state])
-}
-
-// Of a state that a name reaches: which set the name goes into.
-pub(crate) fn kind_of(role: &[u8; 161], state: usize) -> usize
-    requires { (role.now ≡ roles) × (134 ≤ state) × (state < 142) }
-    ensures { (result ≡ role_of state - 3) × (result < 5) }
-{
-    role_of(role, state) - 3
+    ROLES[state]
 }
 
 pub(crate) fn is_final(state: usize) -> bool
     ensures { result ≡ is_final state }
 {
-    (state == 33) | (state == 36) | (state == 93) | (state == 94)
+    matches!(state, 33 | 36 | 93 | 94)
 }

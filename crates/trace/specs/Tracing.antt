@@ -4,8 +4,8 @@ use Rattle.std.specs.Prelude.{ℕ, ◌+◌, ◌-◌, Bool, ◌&&◌, cond, List,
 use Rattle.fields.specs.Fields.{unless}
 use Rattle.reader.specs.Numbers.{le}
 use Rattle.reader.specs.Framing.{length_at, kind_at}
-use Rattle.trace.specs.declared.tracing.Call.{Call}
-use Rattle.trace.specs.declared.tracing.Call.TheVariants.{Start, Cycle, End, Refused}
+use Rattle.trace.specs.Answer.{Call}
+use Rattle.trace.specs.Answer.{Start, Cycle, End, Refused}
 
 -- the first record stands at 0: "a start record is exactly the first"
 abbrev pub kind_due : ℕ → ℕ
@@ -42,10 +42,3 @@ record_at s at = cond (eqb at 0) (Start (clock_at s at)) (Cycle (clock_at s at) 
 
 unfoldable pub call_at : List ℕ → ℕ → Call
 call_at s at = cond (is_over s at) End (cond (record_fits s at) (record_at s at) Refused)
-
--- document 01's number for each case of the answer; a start carries its clock, a cycle its clock and inputs
-abbrev pub number_of : Call → ℕ
-number_of (Start clock) = 0
-number_of (Cycle clock inputs) = 0
-number_of End = 0
-number_of Refused = 16

@@ -1,39 +1,21 @@
 // weigh_page: prints the page of a weighing, of the chart in chart.bin and of the weights on standard input (docs/DECISIONS.md, "The page of a weighing").
 #![tactic(auto)]
 
+use chart::Chart;
 use page::{Heard, LINE, LINES};
 use std::fs::Files;
 use std::io::{Print, Read};
 
-// Lines are gathered, and written as the buffer fills; a failed write ends the page.
-fn print_page<'a>(
-    rt: &impl Print,
-    heard: Heard,
-    n: usize,
-    sources: &'a [u64; 64],
-    targets: &'a [u64; 64],
-    initial: u64,
-    weights: &'a [u16],
-    out: &mut [u8],
-) {
-    let mut k = 0;
+// Lines are gathered in a lent buffer (no heap), and written as it fills; a failed write ends the page.
+fn print_page(rt: &impl Print, heard: &Heard, chart: &Chart, weights: &[u16], out: &mut [u8]) {
+    let initial = chart.initial_set();
     let mut used = 0;
-    while k < LINES {
+    for k in 0..LINES {
         used = console::written(rt, used, LINE, out);
         if out.len() - used < LINE {
             return;
         }
-        used += page::page_line(
-            heard,
-            n,
-            sources,
-            targets,
-            initial,
-            weights,
-            k,
-            &mut out[used..],
-        );
-        k += 1;
+        used += page::page_line(heard, chart, initial, weights, k, &mut out[used..]);
     }
     // Nothing is printed behind these lines, so a failure changes nothing.
     let _ = rt.write_all(&out[..used]);
@@ -49,27 +31,18 @@ fn weigh(
     out: &mut [u8],
 ) {
     let n = console::read_chart_file(rt, file);
-    let reading = reader::read_chart(&file[..n]);
-    let chart = reading.chart;
+    let mut chart = Chart::empty(0);
+    let reading = reader::read_into(&file[..n], &mut chart);
     let m = console::read_full(stdin, input);
     let list = weights::list(&input[..m], weights);
+    let weights = &weights[..list.count];
     let heard = Heard {
-        code: reading.code,
+        reading: reading.map_err(|fault| fault.refusal),
         length: m,
         fault: list.fault,
-        weighed: tally::weigh(chart, &weights[..list.count]),
+        weighed: tally::weigh(&chart, weights),
     };
-    let initial = chart::initial_of(chart.steps, &chart.initial);
-    print_page(
-        rt,
-        heard,
-        chart.transitions,
-        &chart.sources,
-        &chart.targets,
-        initial,
-        &weights[..list.count],
-        out,
-    );
+    print_page(rt, &heard, &chart, weights, out);
 }
 
 fn main(rt: HostRuntime) {

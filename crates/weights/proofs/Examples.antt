@@ -5,7 +5,7 @@ use mathlib.Core.Path.{◌≡◌, refl}
 use Rattle.sets.specs.Loops.{turns, first_code}
 use Rattle.weights.specs.Words.{leading, value, word_says, says_of}
 use Rattle.weights.specs.Listing.{fault_in, weights_in}
-use Rattle.weights.specs.declared.words.Said.TheVariants.{Nothing, Weight, Faulty}
+use Rattle.weights.specs.Answer.{Nothing, Weight, Faulty}
 
 -- "3 # idle\n\n 2\r\n#\n1": a comment, an empty line, blanks on both sides, a comment alone, and no line end at the end
 unfoldable text : List ℕ

@@ -2,9 +2,7 @@
 use Rattle.std.specs.Prelude.{ℕ, ◌+◌, List, [], ◌∷◌, ◌++◌, length, drop}
 use Rattle.sets.specs.Loops.{turns, first_code}
 use Rattle.weights.specs.Words.{is_of, front, behind, says_of}
-use Rattle.weights.specs.declared.words.Class.TheVariants.{Line}
-use Rattle.weights.specs.declared.words.Said.{Said}
-use Rattle.weights.specs.declared.words.Said.TheVariants.{Nothing, Weight, Faulty}
+use Rattle.weights.specs.Answer.{Line, Said, Nothing, Weight, Faulty}
 
 -- what is left of a text behind so many lines and their line ends
 abbrev pub left_behind : ℕ → List ℕ → List ℕ

@@ -1,9 +1,6 @@
 -- Issue 25: "weights in decimal on standard input (one a line, a comment after `#` allowed)". What a line says; docs/DECISIONS.md, "The page of a weighing".
 use Rattle.std.specs.Prelude.{ℕ, zero, suc, ◌+◌, ◌-◌, ◌*◌, Bool, ◌&&◌, ◌||◌, not, cond, List, [], ◌∷◌, length, get_or, take, drop, eqb, leb}
-use Rattle.weights.specs.declared.words.Class.{Class}
-use Rattle.weights.specs.declared.words.Class.TheVariants.{Line, Text, Blank, Digit}
-use Rattle.weights.specs.declared.words.Said.{Said}
-use Rattle.weights.specs.declared.words.Said.TheVariants.{Nothing, Weight, Faulty}
+use Rattle.weights.specs.Answer.{Class, Line, Text, Blank, Digit, Said, Nothing, Weight, Faulty}
 
 -- a line goes up to byte 10, what it says up to a `#`; blanks are tab, return and space
 abbrev pub is_of : Class → ℕ → Bool

@@ -5,4 +5,4 @@ pub mod listing;
 pub mod words;
 
 pub use listing::{Listed, list};
-pub use words::{Said, says};
+pub use words::{Unreadable, says};

@@ -11,7 +11,7 @@ use Rattle.reader.specs.Bodies.{body_at}
 use Rattle.reader.specs.Reading.{read_from, read_chart}
 use Rattle.reader.proofs.reading.Examples.{chart_a}
 use Rattle.writer.specs.Writing.{joined, file_of, refused, write_chart}
-use Rattle.writer.specs.declared.writing.Writing.{Writing}
+use Rattle.writer.specs.Answer.{Writing}
 
 chart-a : file_of (read_chart chart_a).chart ≡ chart_a
 unfolding chart_a read_from record_number body_at transition_code some_initial timed_twice timed_for all some joined file_of

@@ -23,7 +23,7 @@ use Rattle.judging.specs.Judging.{limited}
 use Rattle.reader.specs.Bodies.{kind_of, record_of}
 use Rattle.reader.specs.Reading.{accepted, with_body, number_in, read_from, read_chart}
 use Rattle.judging.specs.declared.Body.{Body}
-use Rattle.reader.specs.declared.reading.Reading.{Reading}
+use Rattle.reader.specs.Answer.{Reading}
 use Rattle.reader.proofs.reading.Kept.{one-or-two}
 use Rattle.writer.specs.Writing.{step_in, action_in, transition_in, block_in, case_in, edition_in, joined, records, step_records, action_records, transition_records, block_records, case_records, edition_records, chart_records, file_of}
 use Rattle.writer.specs.Back.{up_to, first_records, as_counted, Typed}

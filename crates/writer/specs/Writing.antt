@@ -10,7 +10,7 @@ use Rattle.reader.specs.Framing.{body_length, record_bytes}
 use Rattle.reader.specs.Bodies.{record_of}
 use Rattle.judging.specs.declared.Body.{Body}
 use Rattle.judging.specs.declared.Body.TheVariants.{Step, Action, Transition, Block, Case, Edition}
-use Rattle.writer.specs.declared.writing.Writing.{Writing}
+use Rattle.writer.specs.Answer.{Writing}
 
 -- record i of a kind, from its tables
 abbrev pub step_in : List ℕ → ℕ → Body

@@ -1,29 +1,55 @@
--- A step's sum, and the answers in their order.
-use Prim.Native.Nat.{ℕ, ◌+◌, ◌-◌, ◌≤◌, ◌<◌}
-use mathlib.Core.Bool.{Bool, true, false}
-use mathlib.Core.List.{List}
-use mathlib.Core.Path.{◌≡◌, refl, sym, ◌∙◌}
-use native.Mathlib.Omega.{arith}
-use borrow.Author.Tests.{le-leb, lt-leb, eqb-true, ne_eqb}
-use lib.Dec.{eqb}
-use lib.ListN.{length}
-use Rattle.sets.specs.Loops.{all}
-use Rattle.sets.proofs.Below.{never}
-use Rattle.sets.proofs.Loops.{and-true, all_same, true-all, first-zero, zero-first}
+-- A step's sum, the first that doesn't fit, and the answers in their order.
+use Rattle.std.proofs.Common.{ℕ, zero, suc, ◌+◌, ◌≤◌, ◌<◌, Bool, true, false, List, length, get_or, Option, Some, None, eqb, ◌≡◌, refl, sym, ap, ◌∙◌, arith}
+use Rattle.std.specs.List.{zip, AllWithin, HoldsAt}
+use Rattle.std.specs.Option.{MatchOption}
+use Rattle.std.proofs.lemmas.Slice.Zip.{get_or-zip, length-zip}
+use borrow.Author.Tests.{le-leb, lt-leb, ne_eqb}
+use Rattle.sets.specs.Loops.{all, first_code}
+use Rattle.sets.proofs.Loops.{all_same, true-all, first-zero, zero-first, first_found}
 use Rattle.fields.specs.Fields.{unless}
-use Rattle.adding.specs.Adding.{sum_at, fits_at, sums, unfit, are_long, added_as, added_after, sum_after}
-use Rattle.adding.specs.declared.adding.Added.{Added}
+use Rattle.adding.specs.Answer.{place}
+use Rattle.adding.specs.Adding.{sum_at, fits_at, unfit}
 
 -- one more than the number of step k if its sum doesn't fit
-abbrev pub code_at : List ℕ → List ℕ → ℕ → ℕ
+abbrev code_at : List ℕ → List ℕ → ℕ → ℕ
 code_at first second k = unless (fits_at first second k) (k + 1)
 
-module _ (first second : List ℕ) (k : ℕ) {sum : ℕ} (e : sum ≡ sum_at first second k) where
-  pub fits : sum ≤ 65535 → code_at first second k ≡ 0
-  fits h = rw (le-leb _ 65535 (rw e at h))
+-- what is asked of two weights
+abbrev pub Small : ℕ × ℕ → Type 0
+Small p = p.0 + p.1 ≤ 65535
 
-  pub too_large : 65535 < sum → k + 1 ≡ code_at first second k
-  too_large h = rw (lt-leb _ 65535 (rw e at h))
+abbrev pub Large : ℕ × ℕ → Type 0
+Large p = 65535 < p.0 + p.1
+
+module _ (first second : List ℕ) (h : length first ≤ length second) where
+  abbrev both : List (ℕ × ℕ)
+  both = zip first second
+
+  long : length both ≡ length first
+  long = omega (arith, length-zip first second)
+
+  small-code : (k : ℕ) → k < length first → Small (get_or both k (0, 0)) → code_at first second k ≡ 0
+  small-code k l s =
+      let at : get_or both k (0, 0) ≡ (get_or first k 0, get_or second k 0) = get_or-zip first second k (0, 0) l (omega arith) in
+      rw (le-leb (sum_at first second k) 65535 (rw at at s))
+
+  large-code : (k : ℕ) → k < length first → Large (get_or both k (0, 0)) → suc k ≡ code_at first second k
+  large-code k l s =
+      let at : get_or both k (0, 0) ≡ (get_or first k 0, get_or second k 0) = get_or-zip first second k (0, 0) l (omega arith) in
+      rw (lt-leb (sum_at first second k) 65535 (rw at at s)) (omega arith)
+
+  none-before : (i : ℕ) → i ≤ length first → AllWithin Small both 0 i → first_code (code_at first second) i ≡ 0
+  none-before i l s = zero-first (code_at first second) i (true-all _ i (λ k m. rw (small-code k (omega arith) (s k (0, 0) (omega arith) m))))
+
+  -- the first such two weights are those of the first step whose sum doesn't fit
+  pub first-large : (r : Option ℕ)
+      → MatchOption r (AllWithin Small both 0 (length both)) (λ i. (i < length both) × HoldsAt Large both i × AllWithin Small both 0 i)
+      → r ≡ place (unfit (length first) first second)
+  unfolding unfit
+  first-large None s = ap place (sym (none-before (length first) (omega arith) (rw long at s)))
+  first-large (Some i) s =
+      let l : i < length first = omega (arith, s.0, long) in
+      ap place (first_found (code_at first second) i (length first) (suc i) (none-before i (omega arith) s.2) l (large-code i l (s.1 (0, 0))) (λ z. omega arith))
 
 -- where all fit none is too large
 pub all_fit : (n : ℕ) (first second : List ℕ) → all (fits_at first second) n ≡ true → unfit n first second ≡ 0
@@ -34,40 +60,15 @@ all_fit n first second h = zero-first (code_at first second) n (all_same (λ k. 
     by k true = refl
     by k false = ne_eqb (k + 1) 0 (λ z. omega arith)
 
--- and where some do not, one is
-pub some-unfit : (n : ℕ) (first second : List ℕ) → all (fits_at first second) n ≡ false → unfit n first second ≡ 0 → ⊥
+-- and where none is, all fit
+pub fit-all : (n : ℕ) (first second : List ℕ) → unfit n first second ≡ 0 → all (fits_at first second) n ≡ true
 unfolding unfit
-some-unfit n first second h z = never (sym h ∙ true-all (fits_at first second) n (λ k l. by k (fits_at first second k) (first-zero (code_at first second) n z k l)))
+fit-all n first second z = true-all (fits_at first second) n (λ k l. by k (fits_at first second k) (first-zero (code_at first second) n z k l))
   where
     by : (k : ℕ) (b : Bool) → unless b (k + 1) ≡ 0 → b ≡ true
     by k true e = refl
     by k false e = absurd (omega arith)
 
--- what the test of the three lengths tells
-pub long : (n first second lent : ℕ) → are_long n first second lent ≡ true → (first ≡ n) × (second ≡ n) × (lent ≡ n)
-long n first second lent h =
-    let a = and-true _ (eqb lent n) h in
-    let b = and-true (eqb first n) _ a.0 in
-    (eqb-true first n b.0, eqb-true second n b.1, eqb-true lent n a.1)
-
--- ---- the answers in their order
-
--- what is answered, and what the third list holds then
-abbrev pub Answered : ℕ → ℕ → List ℕ → List ℕ → List ℕ → Added → List ℕ → Type 0
-Answered held n first second sum r now = (r ≡ added_after held n first second (length sum)) × (now ≡ sum_after held n first second sum)
-
-module _ (held n : ℕ) (first second sum : List ℕ) {r : Added} where
-  pub by-chart : (held ≡ 0 → ⊥) → r ≡ added_as held 0 → Answered held n first second sum r sum
-  by-chart h e = let z = ne_eqb held 0 h in (e ∙ rw z, rw (z, z))
-
-module _ (n : ℕ) (first second sum : List ℕ) {r : Added} where
-  pub by_length : are_long n (length first) (length second) (length sum) ≡ false → r ≡ added_as 13 0 → Answered 0 n first second sum r sum
-  by_length h e = (e ∙ rw h, rw h)
-
-  pub by-sum : are_long n (length first) (length second) (length sum) ≡ true → all (fits_at first second) n ≡ false → (above : ℕ) → above ≡ unfit n first second → r ≡ added_as 21 (above - 1)
-      → Answered 0 n first second sum r sum
-  by-sum h f above u e = let q = ne_eqb (unfit n first second) 0 (some-unfit n first second f) in (e ∙ rw (h, q, u), rw (h, q))
-
-  pub added : are_long n (length first) (length second) (length sum) ≡ true → all (fits_at first second) n ≡ true → r ≡ added_as 0 0 → (now : List ℕ) → now ≡ sums n first second
-      → Answered 0 n first second sum r now
-  added h f e now w = let u = all_fit n first second f in (e ∙ rw (h, u), w ∙ rw (h, u))
+pub no-place : (n : ℕ) → None ≡ place n → n ≡ 0
+no-place zero e = refl
+no-place (suc k) e = cc

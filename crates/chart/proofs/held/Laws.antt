@@ -5,13 +5,14 @@ use mathlib.Core.Bool.{Bool, true, false, ◌&&◌, ◌||◌}
 use mathlib.Core.Path.{◌≡◌, refl, sym, ap, ap₂, ◌∙◌}
 use native.Mathlib.Numerals.{add-one}
 use native.Mathlib.Omega.{arith}
-use lib.ListN.{length, get_or, get_or-eq_default}
+use lib.ListN.{length, get_or, get_or-eq_default, take}
+use Rattle.std.proofs.lemmas.List.{get_or-take, length-take-le}
 use lib.Dec.{leb, ltb, eqb}
 use borrow.Author.Tests.{le-leb, lt-leb, leb-true, leb-false, lt-ltb, ltb-true, eq-eqb, ne_eqb, eqb-true, eqb-false}
-use Rattle.sets.specs.Loops.{all, some, or_else, first_code}
+use Rattle.sets.specs.Loops.{all, some, first_code}
 use Rattle.sets.proofs.Loops.{first-by-test, and-true, some_same, some-capped, all_both, all_same, and_yes, and_no}
 use Rattle.fields.specs.Fields.{timed, unless}
-use Rattle.chart.specs.Held.{limits_fit, largest, steps_code, block_names_at, duration_fits_at, block_fits_at, blocks_code, case_fits_at, cases_code, initial_at, some_initial, timed_for, timed_again, timed_twice}
+use Rattle.chart.specs.Held.{limits_fit, largest, block_names_at, duration_fits_at, block_fits_at, blocks_code, case_fits_at, cases_code, initial_at, some_initial, timed_for, timed_again, timed_twice}
 
 test-code : (p : ℕ → Bool) (n : ℕ) {fit : Bool} → fit ≡ all p n → unless fit 5 ≡ first_code (λ k. unless (p k) 5) n
 test-code p n e = ap (λ (x : Bool). unless x 5) e ∙ sym (first-by-test 5 p n (λ z. omega arith))
@@ -25,6 +26,15 @@ largest-start table = refl
 pub largest-turn : (table : List ℕ) (i : ℕ) {most next : ℕ} → most ≡ largest i table → next ≡ max most (get_or table i 0) → next ≡ largest (i + 1) table
 unfolding largest
 largest-turn table i e f = rw (add-one, ← e) f
+
+-- of the first numbers of a table
+pub largest-front : (n : ℕ) (table : List ℕ) → n ≤ length table → largest (length (take n table)) (take n table) ≡ largest n table
+unfolding largest
+largest-front n table h = rw (length-take-le n table h) (front n (omega arith))
+  where
+    front : (k : ℕ) → k ≤ n → largest k (take n table) ≡ largest k table
+    front zero l = refl
+    front (suc k) l = rw (front k (omega arith), get_or-take n table k 0 (omega arith))
 
 -- a limit that it keeps, all of them keep
 largest-all : (m n : ℕ) (table : List ℕ) → leb (largest n table) m ≡ all (λ i. leb (get_or table i 0) m) n
@@ -55,19 +65,14 @@ largest-one (suc n) table h =
     go a b l false true e f = let q = eqb-true b 1 f in eq-eqb (max a b) 1 (omega arith)
     go a b l false false e f = let x = eqb-false a 1 e in let y = eqb-false b 1 f in ne_eqb (max a b) 1 (λ m. omega arith)
 
--- the largest mark tells whether all fit, and then whether one is 1; a, t, b, c and d are the numbers between the two tests, z the one behind
-pub marks-code : (n : ℕ) (initial : List ℕ) (a t b c d z : ℕ)
-    → or_else (unless (leb (largest n initial) 1) 5) (or_else a (or_else t (or_else b (or_else c (or_else d (or_else (unless (eqb (largest n initial) 1) 9) z))))))
-    ≡ or_else (steps_code n initial) (or_else a (or_else t (or_else b (or_else c (or_else d (or_else (unless (some_initial n initial) 9) z))))))
-unfolding steps_code some_initial
-marks-code n initial a t b c d z = rw (← largest-code 1 n initial) (go (leb (largest n initial) 1) refl)
+-- where all marks fit, the largest tells whether one is 1
+pub mark-tells : (n : ℕ) (initial : List ℕ) → 0 ≡ unless (leb (largest n initial) 1) 5 → eqb (largest n initial) 1 ≡ some_initial n initial
+unfolding some_initial
+mark-tells n initial h = go (leb (largest n initial) 1) refl h
   where
-    rest : Bool → ℕ
-    rest one = or_else a (or_else t (or_else b (or_else c (or_else d (or_else (unless one 9) z)))))
-
-    go : (fit : Bool) → leb (largest n initial) 1 ≡ fit → or_else (unless fit 5) (rest (eqb (largest n initial) 1)) ≡ or_else (unless fit 5) (rest (some (initial_at initial) n))
-    go true e = ap rest (largest-one n initial (leb-true _ 1 e))
-    go false e = refl
+    go : (fit : Bool) → leb (largest n initial) 1 ≡ fit → 0 ≡ unless fit 5 → eqb (largest n initial) 1 ≡ some (initial_at initial) n
+    go true e z = largest-one n initial (leb-true _ 1 e)
+    go false e z = absurd (omega arith)
 
 -- ---- the tests by columns
 

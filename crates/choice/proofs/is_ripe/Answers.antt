@@ -4,42 +4,32 @@ use native.Mathlib.Omega.{arith}
 use borrow.Author.Rules.{rules}
 use borrow.Author.Tests.{lt-leb, le-leb}
 use Rattle.sets.proofs.Loops.{true-all, all-fails}
-use Rattle.sets.proofs.Visits.{visited-start, visited-turn, visited-end, visit-lt, visit-has, visit-less}
+use Rattle.sets.proofs.Visits.{visited-start, visited-turn, visited-end, visit-lt, visit-has}
+use Rattle.choice.proofs.Laws.{count-at}
 use Rattle.choice.proofs.is_ripe.Goals as goal
 
-pub loop-rest-init : goal.loop-rest-init
-loop-rest-init c = visited-start (omega arith) (search rules) (λ j l n. rw n)
+pub loop-k-init : goal.loop-k-init
+loop-k-init c =
+    rw (c.into_iter-k-iterator.ensures.into_iter_gives, c.each-k-items.ensures) (visited-start (omega arith) (search rules) (λ j l n. rw n))
 
-pub first-k-requires : goal.first-k-requires
-first-k-requires c = search rules
+pub bounds-counters-k : goal.bounds-counters-k
+bounds-counters-k c = let s = c.in-Some.ensures.steps in visit-lt c.loop-k.invariant s.0 s.1
 
-pub bounds-counts-k : goal.bounds-counts-k
-bounds-counts-k c = visit-lt c.loop-rest.invariant c.loop-rest-test.true c.first-k.ensures
+pub offset_bounds-counters-k : goal.offset_bounds-counters-k
+offset_bounds-counters-k c = let s = c.in-Some.ensures.steps in omega (arith, visit-lt c.loop-k.invariant s.0 s.1)
 
-pub offset_bounds-counts-k : goal.offset_bounds-counts-k
-offset_bounds-counts-k c =
-    omega (arith, visit-lt c.loop-rest.invariant c.loop-rest-test.true c.first-k.ensures)
+pub returns-then-counters-k : goal.returns-then-counters-k
+returns-then-counters-k c =
+    let v = c.loop-k.invariant in
+    let s = c.in-Some.ensures.steps in
+    let m = visit-lt v s.0 s.1 in
+    all-fails _ 64 c.in-Some.k m refl (rw (visit-has v s.0 s.1, count-at _ _ m) (lt-leb _ _ c.if-counters-k.true))
 
-pub returns-then-not-reached : goal.returns-then-not-reached
-returns-then-not-reached c =
-    let v = c.loop-rest.invariant in
-    let z = c.loop-rest-test.true in
-    let e = c.first-k.ensures in
-    all-fails _ 64 c.first-k.result (visit-lt v z e) refl (rw (visit-has v z e) (lt-leb _ _ c.if-not-reached.true))
-
-pub without_first-rest-requires : goal.without_first-rest-requires
-without_first-rest-requires c = search rules
-
-pub loop-rest-smaller : goal.loop-rest-smaller
-loop-rest-smaller c =
-    visit-less c.loop-rest.invariant c.loop-rest-test.true c.first-k.ensures c.without_first-rest.ensures
-
-pub loop-rest-preserved : goal.loop-rest-preserved
-loop-rest-preserved c =
-    let v = c.loop-rest.invariant in
-    let z = c.loop-rest-test.true in
-    let e = c.first-k.ensures in
-    visited-turn v z e c.without_first-rest.ensures (λ j n p. p) (rw (visit-has v z e) (le-leb _ _ c.if-not-reached.false))
+pub loop-k-preserved : goal.loop-k-preserved
+loop-k-preserved c =
+    let v = c.loop-k.invariant in
+    let s = c.in-Some.ensures.steps in
+    visited-turn v s.0 s.1 s.2 (λ j n p. p) (rw (visit-has v s.0 s.1, count-at _ _ (visit-lt v s.0 s.1)) (le-leb _ _ c.if-counters-k.false))
 
 pub returns : goal.returns
-returns c = sym (true-all _ 64 (visited-end c.loop-rest.invariant c.loop-rest-test.false))
+returns c = sym (true-all _ 64 (visited-end c.loop-k.invariant c.in-None.ensures.steps.0))

@@ -27,7 +27,7 @@ use Rattle.cycle.specs.Bounds.{bounded}
 use Rattle.passes.specs.Rests.{rests}
 use Rattle.cycle.specs.Cycling.{accepted, acted_on, settled, counts_at, times_at, choice_of, reasons_in, marks_at, moved_by, cycled, outputs_after}
 use Rattle.passes.specs.declared.moving.Marks.{Marks}
-use Rattle.cycle.specs.declared.cycling.Cycled.{Cycled}
+use Rattle.cycle.specs.Answer.{Cycled}
 use Rattle.passes.proofs.rests.Laws.{rest_at}
 
 -- ---- tables whose numbers are below the limit

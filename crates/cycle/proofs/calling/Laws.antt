@@ -1,32 +1,38 @@
 -- One call more, and what is there once one was refused.
-use Prim.Native.Nat.{ℕ, zero, suc, ◌+◌, ◌≤◌, ◌<◌, min}
+use Prim.Native.Nat.{ℕ, suc, ◌+◌, ◌^◌, ◌≤◌, ◌<◌, min}
 use mathlib.Core.List.{List, [], ◌∷◌}
 use mathlib.Core.Bool.{Bool, true, false, ◌||◌, cond}
 use mathlib.Core.Path.{◌≡◌, refl, sym, ap, ap₂, ◌∙◌}
 use native.Mathlib.Omega.{arith}
 use lib.IntN.{ℤ}
+use Rattle.std.proofs.Common.{Result, Ok, Err}
+use Rattle.std.specs.Result.{IsErrAnd}
 use lib.ListN.{length, get_or, set, get_or-replicate}
-use lib.Dec.{leb, eqb}
+use lib.Dec.{leb, ltb, eqb}
 use borrow.Author.Tests.{eq-eqb, ne_eqb, eqb-true, eqb-false}
-use Rattle.sets.specs.Loops.{or_else, turns}
-use Rattle.sets.proofs.Loops.{else-none, else-zero, turns-start, turns_more, turns-still, length-table}
+use Rattle.sets.specs.Loops.{or_else, turns, all}
+use Rattle.sets.proofs.Loops.{else-none, else-zero, turns-start, turns_more, turns-still}
 use Rattle.fields.specs.Fields.{unless}
+use Rattle.refusals.specs.declared.Refusal.{Refusal}
+use Rattle.refusals.specs.Refusals.{number}
+use Rattle.refusals.proofs.Laws.{number-some}
 use Rattle.chart.specs.Held.{chart_code}
 use Rattle.chart.specs.declared.chart.Chart.{Chart}
-use Rattle.chart.proofs.held.Sound.{fits}
-use Rattle.index.specs.Consulting.{is_index, index_after}
-use Rattle.run.specs.Apart.{run_of}
+use Rattle.chart.proofs.held.Sound.{fits, sound}
+use Rattle.index.specs.Consulting.{is_index, index_after, consultable}
+use Rattle.index.proofs.consulting.Laws.{is-consultable}
 use Rattle.run.specs.Belongs.{belongs, own_after, own_code}
-use Rattle.run.specs.declared.apart.Words.{Words}
 use Rattle.run.specs.declared.run.Run.{Run}
-use Rattle.run.proofs.apart.Laws.{same-counts, same-times, put-together}
 use Rattle.choice.proofs.Laws.{reasons-most}
 use Rattle.passes.specs.Moving.{signals_of}
-use Rattle.cycle.specs.Cycling.{refused, counts_at, ready_after, ready_code, indexed_code, cycle_code, cycled, cycle_of, cycle_by, outputs_after, cycle_on, cycle_on_by, why_in}
+use Rattle.cycle.specs.Cycling.{refused, counts_at, ready_code, indexed_code, ready_by, cycle_code, cycled, cycle_of, cycle_by, outputs_after, cycle_on, cycle_on_by, why_in}
 use Rattle.passes.specs.Explaining.{kept_if, no_reasons}
-use Rattle.cycle.specs.Calling.{Calls, no_calls, called, onward, singly, calls_on, calls_by, InParts, in_parts}
-use Rattle.cycle.specs.declared.cycling.Cycled.{Cycled}
-use Rattle.cycle.proofs.cycling.Laws.{stops, goes_on, refused-by, turned-away, passed}
+use Rattle.cycle.specs.Calling.{Calls, no_calls, called, onward, singly, calls_on, calls_by, calls_as}
+use Rattle.cycle.specs.declared.calling.Went.{Went}
+use Rattle.cycle.specs.declared.calling.Stopped.{Stopped}
+use Rattle.cycle.specs.declared.cycling.Cycle.{Cycle}
+use Rattle.cycle.specs.Answer.{Cycled, cycled_as}
+use Rattle.cycle.proofs.cycling.Laws.{stops, goes_on, refused-by, turned-away, apart, passed}
 use Rattle.cycle.proofs.cycling.Tested.{ready-kept, outputs-long}
 
 -- calls with this number, so many accepted
@@ -85,12 +91,16 @@ by_three a h x o = go (eqb a 0) refl (eqb h 0) refl
     go true e true f = rw (e, f)
     go true e false f = rw (e, f, f)
 
--- the number of the tests before any call, the index's among them
-abbrev pub ready_by : Chart → List ℕ → Run → ℕ → ℕ
-ready_by c index r lent = ready_after (index_after (chart_code c) c.transitions c.sources index) c.steps c.actions c.cases r lent
+-- an index of words that passed its test, or none, can be consulted
+pub consults : (c : Chart) (index : List ℕ) → index_after (chart_code c) c.transitions c.sources index ≡ 0
+    → ((length index ≡ 0 → ⊥) → all (λ t. ltb (get_or c.sources t 0) (2 ^ 64)) (min c.transitions 64) ≡ true) → consultable c.transitions c.sources index ≡ true
+consults c index e words =
+    let x = else-zero (chart_code c) (unless (eqb (length index) 0 || is_index c.transitions c.sources index) 20) e in
+    let sure = sound c x.0 in
+    is-consultable c.transitions c.sources index sure.limits.transitions (fits _ 20 (λ n. omega arith) x.1) sure.some-source words
 
 module _ (c : Chart) (index : List ℕ) (r : Run) (lent : ℕ) where
-  -- what they tell: what the tests without an index tell, and of the index
+  -- what the tests before any call tell: what the tests without an index tell, and of the index
   pub record ReadyBy : Type 0 where
     pub indexed : indexed_code c index lent ≡ 0
     pub ready : ready_code c r lent ≡ 0
@@ -133,71 +143,6 @@ module _ (c : Chart) (index : List ℕ) (first : Run) (clocks inputs words : Lis
 
   pub made_by : (d : Calls) → indexed_code c index (length out) ≡ 0 → d ≡ calls_on c first clocks inputs words out → d ≡ calls_by c index first clocks inputs words out
   made_by d e h = h ∙ rw e
-
--- taken apart
-pub in-parts : (code k taken : ℕ) (w : Words) (counts times acts : List ℕ) (out : List ℤ) (d : Calls) → length counts ≡ 64 → length times ≡ 32 → made_of code k taken (run_of w counts times) acts out ≡ d
-    → ◌≡◌ {A = InParts} (record { code = code; accepted = k; taken = taken; words = w }, counts, times, acts, out) (in_parts d)
-in-parts code k taken w counts times acts out d l m e =
-    ap₂ {C = InParts} (λ (cs ts : List ℕ). (record { code = code; accepted = k; taken = taken; words = w }, cs, ts, acts, out)) (same-counts counts l) (same-times times m) ∙ ap in_parts e
-
--- ---- a run of 64 counters and 32 timers keeps them, and so is what its parts make
-
-abbrev pub Long : Run → Type 0
-Long r = (length r.counters ≡ 64) × (length r.timers ≡ 32)
-
-pub parts-long : (w : Words) (counts times : List ℕ) → Long (run_of w counts times)
-parts-long w counts times = (length-table _ 64, length-table _ 32)
-
-cycle-long : (c : Chart) (r : Run) (clock inputs lent : ℕ) → Long r → Long (cycle_of c r clock inputs lent).run
-cycle-long c r clock inputs lent h = go (eqb (cycle_code c r clock lent) 0)
-  where
-    go : (b : Bool) → Long (cond b (cycled c r clock inputs) (refused (cycle_code c r clock lent) r)).run
-    go true = (length-table _ 64, length-table _ 32)
-    go false = h
-
-module _ (c : Chart) (r : Run) (clocks inputs acts : List ℕ) (out : List ℤ) (h : Long r) where
-  more-long : (k : ℕ) (d : Calls) → Long d.run → Long (onward c clocks inputs k d).run
-  more-long k d l = go (eqb d.code 0) (eqb o.code 0)
-    where
-      o : Cycled
-      o = cycle_of c d.run (get_or clocks k 0) (get_or inputs k 0) (length d.outputs)
-
-      left : List ℤ
-      left = outputs_after c o d.outputs
-
-      go : (b e : Bool) → Long (cond b (cond e (made_of 0 (suc k) o.taken o.run (set d.activities k o.run.activity) left) (made_of o.code k o.taken o.run d.activities left)) d).run
-      go true true = cycle-long c d.run (get_or clocks k 0) (get_or inputs k 0) (length d.outputs) l
-      go true false = cycle-long c d.run (get_or clocks k 0) (get_or inputs k 0) (length d.outputs) l
-      go false e = l
-
-  calls-long : (n : ℕ) → Long (singly c r clocks inputs acts out n).run
-  unfolding singly turns
-  calls-long zero = h
-  calls-long (suc n) = more-long n (turns (onward c clocks inputs) (no_calls 0 r acts out) n) (calls-long n)
-
-  on-long : Long (calls_on c r clocks inputs acts out).run
-  on-long = go (eqb (ready_code c r (length out)) 0)
-    where
-      n : ℕ
-      n = min (min (length clocks) (length inputs)) (length acts)
-
-      go : (b : Bool) → Long (cond b (singly c r clocks inputs acts out n) (no_calls (ready_code c r (length out)) r acts out)).run
-      go true = calls-long n
-      go false = h
-
-  by-long : (index : List ℕ) → Long (calls_by c index r clocks inputs acts out).run
-  by-long index = go (eqb (indexed_code c index (length out)) 0)
-    where
-      go : (b : Bool) → Long (cond b (calls_on c r clocks inputs acts out) (no_calls (indexed_code c index (length out)) r acts out)).run
-      go true = on-long
-      go false = h
-
-  -- the run that the parts make
-  pub put_back : (index : List ℕ) (g : InParts) (next : Run) → g ≡ in_parts (calls_by c index r clocks inputs acts out) → next ≡ run_of g.0.words g.1 g.2
-      → next ≡ (calls_by c index r clocks inputs acts out).run
-  put_back index g next e f =
-      let d = calls_by c index r clocks inputs acts out in
-      f ∙ ap (λ (p : InParts). run_of p.0.words p.1 p.2) e ∙ sym (put-together d.run _ _ _ refl (refl, (by-long index).0) (refl, (by-long index).1))
 
 -- ---- one call is a cycle
 
@@ -260,17 +205,33 @@ once_by c index r clock inputs acts out h = go (eqb code 0) refl
     go true q = once c r clock inputs acts out h ∙ rw q
     go false q = turned-away c code code (cycle_of c r clock inputs (length out)) _ r out refl (eqb-false code 0 q) (rw q)
 
-pub one-cycle : (c : Chart) (index : List ℕ) (r : Run) (clock inputs : ℕ) (out : List ℤ) (w : Words) (counts times acts reasons : List ℕ) (g : InParts) (next : Run)
-    → r ≡ run_of w counts times → length acts ≡ 1 → reasons ≡ kept_if g.0.code (why_in c (run_of w counts times) clock inputs)
-    → g ≡ in_parts (calls_by c index (run_of w counts times) (clock ∷ []) (inputs ∷ []) acts out) → next ≡ run_of g.0.words g.1 g.2
-    → ◌≡◌ {A = Cycled × List ℤ} (record { code = g.0.code; taken = g.0.taken; reasons = reasons; run = next }, g.4) (cycle_on_by c index r clock inputs out)
-one-cycle c index r clock inputs out w counts times acts reasons g next e h k f n =
-    let run = run_of w counts times in
-    let why = why_in c run clock inputs in
-    ap {B = Cycled × List ℤ} (λ (l : List ℕ). (record { code = g.0.code; taken = g.0.taken; reasons = l; run = next }, g.4)) k
-    ∙ ap₂ {C = Cycled × List ℤ} (λ (p : InParts) (x : Run). (record { code = p.0.code; taken = p.0.taken; reasons = kept_if p.0.code why; run = x }, p.4)) f (put_back c run (clock ∷ []) (inputs ∷ []) acts out (parts-long w counts times) index g next f n)
-    ∙ once_by c index run clock inputs acts out h
-    ∙ ap (λ (x : Run). cycle_on_by c index x clock inputs out) (sym e)
+-- the answer and the outputs, if the reasons were kept
+pub one-cycle : (c : Chart) (index : List ℕ) (r : Run) (clock inputs : ℕ) (acts why : List ℕ) (out : List ℤ) (d : Calls) → length acts ≡ 1 → why ≡ why_in c r clock inputs
+    → d ≡ calls_by c index r (clock ∷ []) (inputs ∷ []) acts out → let o : Cycled = record { code = d.code; taken = d.taken; reasons = kept_if d.code why; run = d.run } in
+    (o ≡ cycle_by c index r clock inputs (length out)) × (d.outputs ≡ outputs_after c o out)
+one-cycle c index r clock inputs acts why out d h w e =
+    apart c (cycle_by c index r clock inputs (length out)) _ out d.outputs
+    (ap (λ (l : List ℕ). answer_in l d) w ∙ ap (answer_in (why_in c r clock inputs)) e ∙ once_by c index r clock inputs acts out h)
+
+-- so of the code's answers
+module _ (c : Chart) (index : List ℕ) (r : Run) (clock inputs : ℕ) (acts words : List ℕ) (out left : List ℤ) (run : Run) (one : length acts ≡ 1) where
+  abbrev made : Calls
+  made = calls_by c index r (clock ∷ []) (inputs ∷ []) acts out
+
+  abbrev pub Cycles : Result Cycle Refusal → Type 0
+  Cycles x = (cycled_as x run ≡ cycle_by c index r clock inputs (length out)) × (left ≡ outputs_after c (cycled_as x run) out)
+
+  pub one-went : (w : Went) (why : List ℕ) → why ≡ why_in c r clock inputs → calls_as (Ok w) run words left ≡ made → Cycles (Ok (record { taken = w.taken; reasons = why }))
+  one-went w why h e = one-cycle c index r clock inputs acts why out _ one h e
+
+  pub one-stopped : (s : Stopped) (x : Result Cycle Refusal) → IsErrAnd x (λ e. e ≡ s.refusal) → calls_as (Err s) run words left ≡ made → Cycles x
+  one-stopped s (Ok y) h e = elim h [ ]
+  one-stopped s (Err f) h e =
+      let o = one-cycle c index r clock inputs acts (why_in c r clock inputs) out _ one refl e in
+      let kept = kept_if (number s.refusal) (why_in c r clock inputs) in
+      let none : kept ≡ no_reasons = rw (ne_eqb (number s.refusal) 0 (number-some s.refusal)) in
+      let same : cycled_as (Err f) run ≡ record { code = number s.refusal; taken = 0; reasons = kept; run = run } = ap₂ {C = Cycled} (λ (n : ℕ) (l : List ℕ). record { code = n; taken = 0; reasons = l; run = run }) (ap number h) (sym none) in
+      (same ∙ o.0, o.1 ∙ ap (λ (x : Cycled). outputs_after c x out) (sym same))
 
 -- ---- without an index
 

@@ -31,7 +31,7 @@ use Rattle.passes.specs.Time.{elapsed, step_time, grown_count, grown_time}
 use Rattle.passes.specs.Choosing.{moved_to, entered_by, steps_of}
 use Rattle.passes.specs.Moving.{settled_counters, settled_timers, marks_of, signals_of}
 use Rattle.cycle.specs.Cycling.{refused, start_code, cycle_code, acted_on, start_steps, started, start_of, counts_at, times_at, choice_of, cycled, cycle_of}
-use Rattle.cycle.specs.declared.cycling.Cycled.{Cycled}
+use Rattle.cycle.specs.Answer.{Cycled}
 use Rattle.cycle.proofs.cycling.Laws.{cycle-passed}
 
 -- ---- counts

@@ -31,7 +31,7 @@ use Rattle.cycle.specs.Stepping.{Moved, moved_on}
 use Rattle.cycle.specs.Cycling.{refused, accepted, ready_code, late_code, cycle_code, acted_on, started, choice_of, marks_at, cycled, outputs_after, answered}
 use Rattle.passes.specs.Explaining.{no_reasons}
 use Rattle.passes.specs.declared.moving.Marks.{Marks}
-use Rattle.cycle.specs.declared.cycling.Cycled.{Cycled}
+use Rattle.cycle.specs.Answer.{Cycled}
 
 -- ---- the lent outputs
 

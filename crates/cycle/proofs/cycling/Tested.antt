@@ -15,7 +15,7 @@ use Rattle.cycle.specs.Bounds.{bounded}
 use Rattle.passes.specs.Time.{elapsed}
 use Rattle.cycle.specs.Cycling.{refused, accepted, ready_code, cycle_code, cycled, cycle_of, cycle_on, outputs_after, why_in}
 use Rattle.cycle.specs.Stepping.{Moved, moved_on}
-use Rattle.cycle.specs.declared.cycling.Cycled.{Cycled}
+use Rattle.cycle.specs.Answer.{Cycled}
 use Rattle.passes.proofs.outputs.Laws.{outputs-length}
 use Rattle.cycle.proofs.bounds.Sound.{cycled-bounded, after-bounded}
 use Rattle.cycle.proofs.cycling.Kept.{cycle-belongs}

@@ -5,14 +5,10 @@ use mathlib.Core.Path.{sym}
 use native.Mathlib.Omega.{arith}
 use borrow.Author.Tests.{lt-ltb, ltb-true}
 use Rattle.sets.proofs.Loops.{bool_eq}
-use borrow.Author.Rules.{rules}
 use Rattle.fields.proofs.signal_exists.Goals as goal
 
 pub returns-then-signal-lt32 : goal.returns-then-signal-lt32
 returns-then-signal-lt32 c = let a = c.args in sym (lt-ltb a.signal (32 + a.actions) (omega arith))
-
-pub overflow_cast-result : goal.overflow_cast-result
-overflow_cast-result c = search rules
 
 pub returns : goal.returns
 returns c =

@@ -1,22 +1,12 @@
--- The number of the tests and the mark that they leave are the whole answer.
-use Prim.Native.Nat.{ℕ}
+-- A run that the key leaves belongs to the chart, if it was given one that does.
 use mathlib.Core.Bool.{Bool, true, false, cond}
-use mathlib.Core.Path.{◌≡◌, refl, ap}
+use mathlib.Core.Path.{◌≡◌, refl}
 use lib.Dec.{eqb, leb}
-use borrow.Author.Tests.{eqb-true}
 use Rattle.chart.specs.declared.chart.Chart.{Chart}
 use Rattle.run.specs.Belongs.{belongs, own_code}
 use Rattle.run.specs.declared.run.Run.{Run}
 use Rattle.run.proofs.belongs.Laws.{Own, own, is-own}
 use Rattle.key.specs.Turning.{mark_of, marked, turned_as, turn_of}
-
-pub turned-as : (held : Bool) (c : Chart) (r next : Run) (code mark : ℕ) → code ≡ own_code c r → mark ≡ cond (eqb code 0) (mark_of held) r.hold → next ≡ marked mark r
-    → turned_as code next ≡ turn_of held c r
-turned-as held c r next code mark e f g = rw (g, f, e) (go (eqb (own_code c r) 0) refl)
-  where
-    go : (b : Bool) → eqb (own_code c r) 0 ≡ b → turned_as (own_code c r) (marked (cond b (mark_of held) r.hold) r) ≡ cond b (turned_as 0 (marked (mark_of held) r)) (turned_as (own_code c r) r)
-    go true q = ap (λ (n : ℕ). turned_as n (marked (mark_of held) r)) (eqb-true _ 0 q)
-    go false q = refl
 
 -- accepted or refused, the key answers with a run that belongs to the chart, if it was given one
 mark-fits : (held : Bool) → leb (mark_of held) 1 ≡ true

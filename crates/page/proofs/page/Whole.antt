@@ -17,8 +17,7 @@ use Rattle.chart.proofs.held.Sound.{sound}
 use Rattle.reader.specs.Reading.{read_chart}
 use Rattle.reader.proofs.reading.Accepted.{read-accepted}
 use Rattle.tally.specs.Weighing.{weigh_of, refused}
-use Rattle.tally.specs.declared.weighing.Weighed.{Weighed}
-use Rattle.tally.proofs.weighing.Laws.{weights-refused}
+use Rattle.tally.specs.Answer.{Weighed}
 use Rattle.lines.specs.Lines.{chart_line}
 use Rattle.weights.specs.Listing.{fault_in, weights_in}
 use Rattle.page.specs.Sides.{joined}
@@ -105,9 +104,11 @@ module _ (c : Chart) (weights : List ℕ) (w : Weighed) where
 
 module _ (c : Chart) (passes : chart_code c ≡ 0) where
   -- weights that are not as many as the steps
+  miscounted : (weights : List ℕ) → (length weights ≡ c.steps → ⊥) → weigh_of c weights ≡ refused 13 0
+  miscounted weights h = rw (passes, ne_eqb _ _ h)
+
   wrong : (weights : List ℕ) → (length weights ≡ c.steps → ⊥) → page_for c weights ≡ wrong_count
-  wrong weights h =
-      ap (λ (w : Weighed). cond (eqb w.code 13) wrong_count (weighed_page c weights w)) (sym (weights-refused c weights (refused 13 0) passes h refl))
+  wrong weights h = ap (λ (w : Weighed). cond (eqb w.code 13) wrong_count (weighed_page c weights w)) (miscounted weights h)
 
   -- there are at most 64 steps, so 65 weights are too many, as any more are
   first-weights : (weights : List ℕ) → page_for c (take 65 weights) ≡ page_for c weights

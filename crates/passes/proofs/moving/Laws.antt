@@ -53,3 +53,7 @@ module _ (step signal expected : List ℕ) (left signals : ℕ) where
       goods = collect-turn _ i g g' false l m.goods (rw (← e, ← o, h)) x;
       bads = collect-turn _ i b b' false l m.bads (rw (← e, ← o, h)) y;
     }
+
+  pub all-marked : (n i g b : ℕ) → Marked i g b → i ≡ n → record { good = g; bad = b } ≡ marks_of n step signal expected left signals
+  unfolding marks_of
+  all-marked n i g b m e = rw (m.goods, m.bads, e)

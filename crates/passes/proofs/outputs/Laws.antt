@@ -1,6 +1,6 @@
 -- The lent outputs while the first n are written: as long as they were, f at each of the first i, and untouched behind n.
-use Rattle.std.proofs.Common.{◌≡◌, ℕ, suc, ◌+◌, ◌-◌, ◌<◌, ◌≤◌, Bool, true, false, cond, ◌&&◌, eqb, List, ◌++◌, length, get_or, take, drop, set, ℤ, pos, sym, refl, ap, ◌∙◌, ⊎_elim, eq-or-lt_of_le, arith, length-set, take-append-drop, length-take-le, get_or-set_other, get_or-take, get_or-set_same, drop-set-lt, drop_at, eq-eqb, ne_eqb, eqb-true}
-use lib.ListN.{get_or-append}
+use Rattle.std.proofs.Common.{◌≡◌, ℕ, suc, ◌-◌, ◌<◌, ◌≤◌, Bool, true, false, cond, ◌&&◌, eqb, List, ◌++◌, length, get_or, take, drop, set, ℤ, pos, sym, refl, ap, ◌∙◌, arith, length-set, take-append-drop, length-take-le, get_or-set_other, get_or-take, get_or-set_same, drop-set-lt, drop_at, eq-eqb, ne_eqb, eqb-true}
+use lib.ListN.{replicate, get_or-append, get_or-replicate}
 use borrow.Author.Tests.{eqb-false}
 use Rattle.sets.specs.Loops.{table}
 use Rattle.sets.proofs.Loops.{is-table, length-table, get_or-table}
@@ -11,9 +11,6 @@ pub record Front (n : ℕ) (f : ℕ → ℤ) (i : ℕ) (l l₀ : List ℤ) : Typ
   pub long : length l ≡ length l₀
   pub passed : (j : ℕ) → j < i → get_or l j (pos 0) ≡ f j
   pub behind : drop n l ≡ drop n l₀
-
-pub front-start : (n : ℕ) (f : ℕ → ℤ) (l : List ℤ) → Front n f 0 l l
-front-start n f l = record { long = refl; passed = λ j h. absurd (omega arith); behind = refl }
 
 -- f is written at i, and what was there at the others
 module _ (n : ℕ) (f g : ℕ → ℤ) (i m : ℕ) (l l₀ : List ℤ) (v : ℤ) (w : Front n f m l l₀) (h : i < n) (k : n ≤ length l₀) where
@@ -30,19 +27,6 @@ module _ (n : ℕ) (f g : ℕ → ℤ) (i m : ℕ) (l l₀ : List ℤ) (v : ℤ)
           let o = w.long in
           rw r (get_or-set_same l i v (pos 0) (omega arith) ∙ e)
       at j q false z = get_or-set_other l i j v (pos 0) (eqb-false j i z) ∙ w.passed j q ∙ same j q (eqb-false j i z)
-
-pub front-turn : (n : ℕ) (f : ℕ → ℤ) (i : ℕ) (l l₀ : List ℤ) (v : ℤ) → Front n f i l l₀ → i < n → n ≤ length l₀ → v ≡ f i → Front n f (i + 1) (set l i v) l₀
-front-turn n f i l l₀ v w h k e = record {
-  long = length-set l i v ∙ w.long;
-  passed = λ j q. ⊎_elim (λ r. rw r (same ∙ e)) (λ r. get_or-set_other l i j v (pos 0) (λ z. omega arith) ∙ w.passed j r) (eq-or-lt_of_le (below j q));
-  behind = drop-set-lt n l i v h ∙ w.behind;
-}
-  where
-    same : get_or (set l i v) i (pos 0) ≡ v
-    same = let o = w.long in get_or-set_same l i v (pos 0) (omega arith)
-
-    below : (j : ℕ) → j < i + 1 → j ≤ i
-    below j q = omega arith
 
 pub front-end : (n : ℕ) (f : ℕ → ℤ) (i : ℕ) (l l₀ : List ℤ) → Front n f i l l₀ → n ≤ i → n ≤ length l₀ → l ≡ table f n ++ drop n l₀
 front-end n f i l l₀ w h k =
@@ -86,6 +70,10 @@ module _ (n : ℕ) (output : List ℕ) (value : List ℤ) (activity : ℕ) where
 
 pub front-as : (n : ℕ) (f g : ℕ → ℤ) (i : ℕ) (l l₀ : List ℤ) → Front n f i l l₀ → ((j : ℕ) → j < i → f j ≡ g j) → Front n g i l l₀
 front-as n f g i l l₀ w same = record { long = w.long; passed = λ j q. w.passed j q ∙ same j q; behind = w.behind }
+
+-- zeros in front of what was there
+pub zeros-wiped : (out : List ℤ) → replicate 32 (pos 0) ++ drop 32 out ≡ wiped out
+zeros-wiped out = ap (λ (t : List ℤ). t ++ drop 32 out) (is-table (λ o. pos 0) 32 (replicate 32 (pos 0)) (pos 0) refl (λ j q. get_or-replicate 32 j (pos 0) (pos 0) q))
 
 pub driven-wiped : (n : ℕ) (output : List ℕ) (value : List ℤ) (activity : ℕ) (out : List ℤ)
     → driven n output value activity (wiped out) ≡ outputs_of n output value activity ++ drop 32 out

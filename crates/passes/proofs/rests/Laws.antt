@@ -1,5 +1,5 @@
 -- Tables of numbers that go by their rest.
-use Rattle.std.proofs.Common.{◌≡◌, ℕ, ◌%◌, ◌<◌, List, get_or, sym, ap, ◌∙◌, mod-lt}
+use Rattle.std.proofs.Common.{◌≡◌, ℕ, ◌%◌, ◌<◌, List, get_or, mod-lt}
 use native.Mathlib.Nat.{zero-mod}
 use lib.ListN.{get_or-map}
 use Rattle.passes.specs.Rests.{rests}
@@ -10,7 +10,3 @@ rest_at n l k = rw zero-mod at (get_or-map (λ (x : ℕ). x % n) l k 0)
 
 pub rest_lt : (n : ℕ) (l : List ℕ) (k : ℕ) → 0 < n → get_or (rests n l) k 0 < n
 rest_lt n l k h = rw rest_at (mod-lt (get_or l k 0) h)
-
--- a number that was read and then goes by its rest
-pub rest_read : (n : ℕ) (l : List ℕ) (k x : ℕ) → x ≡ get_or l k 0 → x % n ≡ get_or (rests n l) k 0
-rest_read n l k x e = ap (λ (y : ℕ). y % n) e ∙ sym (rest_at n l k)

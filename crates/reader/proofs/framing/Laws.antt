@@ -10,8 +10,8 @@ use borrow.Author.Tests.{le-leb, lt-leb, leb-true, eq-eqb, ne_eqb, eqb-true, eqb
 use Rattle.sets.proofs.Loops.{and-true}
 use Rattle.fields.specs.Fields.{kind_fits}
 use Rattle.reader.specs.Framing.{length_at, kind_at, body_length, head_number, record_number, record_values, number_of, values_of, Answers, place_after, kind_after}
-use Rattle.reader.specs.declared.framing.Next.{Next}
-use Rattle.reader.specs.declared.framing.Next.TheVariants.{Record, End, Refused}
+use Rattle.reader.specs.Answer.{Next}
+use Rattle.reader.specs.Answer.{Record, End, Refused}
 
 -- ---- from the tests to the answer
 
@@ -20,9 +20,10 @@ module _ (s : List ℕ) (at before : ℕ) where
   unfolding record_number
   short h = rw (lt-leb _ _ h)
 
-  pub headed : 4 ≤ length s - at → head_number (length_at s at) (kind_at s at) (length s - (at + 4)) before ≡ record_number s at before
+  -- n is the number of a whole head with this length and kind
+  pub headed : {l k n : ℕ} → 4 ≤ length s - at → l ≡ length_at s at → k ≡ kind_at s at → n ≡ head_number l k (length s - (at + 4)) before → n ≡ record_number s at before
   unfolding record_number
-  headed h = rw (le-leb _ _ h)
+  headed h e f g = g ∙ rw (e, f, le-leb _ _ h)
 
   pub refuses : (n : ℕ) → n ≡ record_number s at before → (n ≡ 0 → ⊥) → Answers (Refused n at) s at before
   unfolding record_values

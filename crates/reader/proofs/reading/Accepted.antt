@@ -19,7 +19,7 @@ use Rattle.reader.specs.Framing.{length_at, kind_at, body_length, record_number}
 use Rattle.reader.specs.Bodies.{body_at}
 use Rattle.reader.specs.Reading.{refused, accepted, closed, ended, with_body, number_in, taken, read_from, read_chart}
 use Rattle.judging.specs.declared.Body.{Body}
-use Rattle.reader.specs.declared.reading.Reading.{Reading}
+use Rattle.reader.specs.Answer.{Reading}
 use Rattle.reader.proofs.framing.Laws.{Headed, is-headed, Known, is_known}
 use Rattle.reader.proofs.reading.Kept.{Column, Kept, one-or-two, kept-start, kept_step, kept-action, kept-transition, kept_block, kept_case, kept-edition}
 

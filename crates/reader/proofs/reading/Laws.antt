@@ -2,7 +2,7 @@
 use Prim.Native.Nat.{ℕ, zero, suc, ◌+◌, ◌-◌, ◌≤◌, ◌<◌}
 use mathlib.Core.List.{List}
 use mathlib.Core.Bool.{Bool, true, false, cond}
-use mathlib.Core.Path.{◌≡◌, refl, sym, ◌∙◌}
+use mathlib.Core.Path.{◌≡◌, refl}
 use lib.ListN.{length}
 use lib.Dec.{eqb}
 use native.Mathlib.Omega.{arith}
@@ -97,15 +97,14 @@ module _ (s : List ℕ) (at before : ℕ) (c : Chart) where
       taken_here : taken at c b (read_from turn.fuel s (p + n) k) ≡ read_chart s
       taken_here = rw (q, f.kind, f.place, f.size) (rw (← f.number, ne_eqb _ 0 f.some) at turn.same)
 
-      module _ (m : ℕ) (h : m ≡ number_in c b) where
-        pub halted : (m ≡ 0 → ⊥) → refused m at ≡ read_chart s
-        halted z = rw (← h, ne_eqb m 0 z) at taken_here
+      pub halted : (m : ℕ) → m ≡ number_in c b → (m ≡ 0 → ⊥) → refused m at ≡ read_chart s
+      halted m h z = rw (← h, ne_eqb m 0 z) at taken_here
 
-        pub onward : m ≡ 0 → (x : Body) → b ≡ x → Onward s (p + n) k (with_body c x)
-        onward z x g =
-            let d = f.headed in
-            record {
-              fuel = turn.fuel;
-              enough = shorter (length s) at (length_at s at) p n turn.fuel f.place f.size d.whole turn.enough;
-              same = rw g at (rw (eq-eqb _ 0 (sym h ∙ z)) at taken_here);
-            }
+      pub onward : 0 ≡ number_in c b → Onward s (p + n) k (with_body c b)
+      onward z =
+          let d = f.headed in
+          record {
+            fuel = turn.fuel;
+            enough = shorter (length s) at (length_at s at) p n turn.fuel f.place f.size d.whole turn.enough;
+            same = rw (← z) at taken_here;
+          }

@@ -17,8 +17,8 @@ use Rattle.run.specs.Run.{no_run}
 use Rattle.run.specs.declared.run.Run.{Run}
 use Rattle.cycle.specs.Cycling.{start_of, cycle_of}
 use Rattle.trace.specs.Tracing.{body_due, record_fits, call_at}
-use Rattle.trace.specs.declared.tracing.Call.{Call}
-use Rattle.trace.specs.declared.tracing.Call.TheVariants.{Start, Cycle, End, Refused}
+use Rattle.trace.specs.Answer.{Call}
+use Rattle.trace.specs.Answer.{Start, Cycle, End, Refused}
 use Rattle.trace.proofs.tracing.Laws.{due, after-start, after-cycle}
 use Rattle.lines.specs.Lines.{chart_line}
 use Rattle.report.specs.Printing.{line_of, cycle_lines, printed_at, printed_from, printed_run}

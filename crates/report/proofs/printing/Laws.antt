@@ -1,33 +1,32 @@
 -- Each step's line and standing, branch by branch, and that the steps come nearer to the end.
 use Prim.Native.Nat.{ℕ, suc, ◌+◌, ◌-◌, ◌≤◌, ◌<◌}
 use mathlib.Core.Bool.{Bool, true, false, ◌&&◌, cond}
-use mathlib.Core.List.{List, ◌++◌, append-nil}
-use mathlib.Core.Path.{◌≡◌, refl, ap, ◌∙◌}
+use mathlib.Core.List.{List, ◌++◌, append_assoc}
+use mathlib.Core.Path.{◌≡◌, refl, sym, ap, ◌∙◌}
 use native.Mathlib.Nat.{zero-add}
 use native.Mathlib.Omega.{arith}
-use lib.ListN.{length, get_or}
+use lib.ListN.{length, get_or, take, drop, take-append-drop}
+use lib.Seq.{length-take-le, drop-append-le}
 use lib.Dec.{eqb}
-use borrow.Author.Tests.{le-leb, lt-leb, ne_eqb, eqb-true}
+use borrow.Author.Tests.{le-leb, ne_eqb, eqb-true}
 use Rattle.sets.specs.Bytes.{Put}
 use Rattle.sets.proofs.Bytes.{put-put}
 use Rattle.chart.specs.declared.chart.Chart.{Chart}
 use Rattle.chart.proofs.held.Sound.{sound}
 use Rattle.run.specs.declared.run.Run.{Run}
-use Rattle.cycle.specs.Cycling.{refused, cycle_code, start_of, cycled, cycle_of}
-use Rattle.cycle.specs.declared.cycling.Cycled.{Cycled}
+use Rattle.cycle.specs.Cycling.{refused, cycle_code, cycled, cycle_of}
+use Rattle.cycle.specs.Answer.{Cycled}
 use Rattle.cycle.proofs.cycling.Laws.{cycle-passed}
 use Rattle.cycle.proofs.calling.Laws.{why-most}
 use Rattle.trace.specs.Tracing.{call_at}
-use Rattle.trace.specs.declared.tracing.Call.{Call}
-use Rattle.trace.specs.declared.tracing.Call.TheVariants.{Start, Cycle, End, Refused}
+use Rattle.trace.specs.Answer.{Call}
+use Rattle.trace.specs.Answer.{Start, Cycle, End, Refused}
 use Rattle.trace.proofs.tracing.Laws.{start-there, cycle-there}
-use Rattle.tally.specs.Tallying.{tally_of}
-use Rattle.tally.specs.declared.tallying.Tallied.{Tallied}
 use Rattle.lines.specs.Lines.{chart_line}
-use Rattle.report.specs.Wording.{reasons_line, trace_line}
-use Rattle.report.specs.Printing.{line_of, second_line, cycle_lines, closing_line, printed_at, printed_from, number_at, stepped, unmoved, line_for, standing_for, Prints, next_line, next_standing, printed_of, line_after}
+use Rattle.report.specs.Wording.{reasons_line}
+use Rattle.report.specs.Printing.{line_of, second_line, printed_at, printed_from, stepped, unmoved, line_for, standing_for, Prints, next_line, next_standing, printed_of, line_after}
 use Rattle.report.specs.declared.printing.Standing.{Standing}
-use Rattle.report.specs.declared.printing.Printed.{Printed}
+use Rattle.report.specs.Answer.{Printed}
 use Rattle.report.proofs.wording.Laws.{reasons-length}
 
 -- what is printed from a place on begins with what stands there
@@ -83,8 +82,15 @@ module _ (e m : List ℕ) (number transitions : ℕ) (o : Cycled) (n : ℕ) (roo
   second-there f r h k q =
       (rw h (put-put e 0 (line_of number o) (reasons_line transitions o.reasons) p q (omega arith)), omega (arith, q.1, reasons-length transitions o.reasons))
 
-  pub second_none : (eqb o.code 0 && eqb o.taken 0) ≡ false → Put e 0 (line_of number o ++ second_line transitions o) m n × (n ≤ 129)
-  second_none h = (rw (h, append-nil (line_of number o)) p, omega arith)
+-- ---- a line at the front of a buffer is at the front of all of it
+
+put-front : (n : ℕ) (e t now : List ℕ) (r : ℕ) → n ≤ length e → length t ≤ n → Put (take n e) 0 t now r → Put e 0 t (now ++ drop n e) r
+put-front n e t now r h k p = (
+  ap (λ (x : List ℕ). x ++ drop n e) p.0
+      ∙ append_assoc t (drop (length t) (take n e)) (drop n e)
+      ∙ ap (λ (x : List ℕ). t ++ x) (sym (drop-append-le (length t) (take n e) (drop n e) (omega (arith, length-take-le n e h))) ∙ ap (λ (x : List ℕ). drop (length t) x) (take-append-drop n e)),
+  p.1,
+)
 
 -- ---- one step, branch by branch
 
@@ -94,28 +100,6 @@ put-prints e t now n done at run r p l q =
     let h : n ≡ length t = p.1 ∙ zero-add (length t) in
     record { line = p.0; answer = q ∙ ap (λ (m : ℕ). stepped m done at run) h; short = omega arith }
 
-module _ (c : Chart) (s : List ℕ) (at : ℕ) (run : Run) (e now : List ℕ) (number n : ℕ) (r : Printed) (num : number ≡ number_at at) (l : n ≤ 129) where
-  abbrev Printing : Type 0
-  Printing = Prints e (line_for c at run (call_at s at)) (standing_for c at run (call_at s at)) now r
-
-  pub start-prints : (clock lent : ℕ) (o : Cycled) → call_at s at ≡ Start clock → lent ≡ 32 → o ≡ start_of c clock lent
-      → Put e 0 (line_of number o) now n → r ≡ stepped n false (at + 8) o.run → Printing
-  start-prints clock lent o x m h p q =
-      let k : o ≡ start_of c clock 32 = h ∙ ap (start_of c clock) m in
-      rw x (put-prints e _ now n false (at + 8) (start_of c clock 32).run r (rw (← num, ← k) p) l (q ∙ ap (λ (o : Cycled). stepped n false (at + 8) o.run) k))
-
-  pub cycle-prints : (clock inputs lent : ℕ) (o : Cycled) → call_at s at ≡ Cycle clock inputs → lent ≡ 32 → o ≡ cycle_of c run clock inputs lent
-      → Put e 0 (cycle_lines c number o) now n → r ≡ stepped n false (at + 12) o.run → Printing
-  cycle-prints clock inputs lent o x m h p q =
-      let k : o ≡ cycle_of c run clock inputs 32 = h ∙ ap (cycle_of c run clock inputs) m in
-      rw x (put-prints e _ now n false (at + 12) (cycle_of c run clock inputs 32).run r (rw (← num, ← k) p) l (q ∙ ap (λ (o : Cycled). stepped n false (at + 12) o.run) k))
-
-  pub tally-prints : (t : Tallied) → call_at s at ≡ End → t ≡ tally_of c run → Put e 0 (closing_line number t) now n → r ≡ stepped n true at run → Printing
-  tally-prints t x h p q = rw x (put-prints e _ now n true at run r (rw (← num, ← h) p) l q)
-
-  pub trace-prints : call_at s at ≡ Refused → Put e 0 trace_line now n → r ≡ stepped n true at run → Printing
-  trace-prints x p q = rw x (put-prints e trace_line now n true at run r p l q)
-
 -- ---- the next line, for every argument
 
 module _ (code : ℕ) (c : Chart) (s : List ℕ) (st : Standing) (line now : List ℕ) (r : Printed) where
@@ -123,13 +107,6 @@ module _ (code : ℕ) (c : Chart) (s : List ℕ) (st : Standing) (line now : Lis
     pub answer : r ≡ printed_of (length line) code c s st
     pub content : now ≡ line_after code c s st line
     pub within : r.length ≤ length line
-
-  pub too_small : length line < 129 → now ≡ line → r ≡ unmoved st → Answers
-  too_small l e h = record {
-    answer = h ∙ rw (lt-leb 129 (length line) l);
-    content = e ∙ rw (lt-leb 129 (length line) l);
-    within = rw h (omega arith);
-  }
 
   -- what is printed, where there is room
   pub has_room : 129 ≤ length line → Prints line (next_line code c s st) (next_standing code c s st) now r → Answers
@@ -139,16 +116,23 @@ module _ (code : ℕ) (c : Chart) (s : List ℕ) (st : Standing) (line now : Lis
     within = rw p.answer (let h = p.short in omega arith);
   }
 
+  -- what is printed into the first 129 bytes
+  front-prints : (f : List ℕ) → 129 ≤ length line → Prints (take 129 line) (next_line code c s st) (next_standing code c s st) f r → now ≡ f ++ drop 129 line → Answers
+  front-prints f l p e =
+      let t = next_line code c s st in
+      has_room l (record { line = e ∙ (put-front 129 line t f (length t) l p.short (p.line, omega arith)).0; answer = p.answer; short = p.short })
+
   pub is-done : 129 ≤ length line → st.done ≡ true → now ≡ line → r ≡ unmoved st → Answers
   unfolding next_line next_standing
   is-done l d e h = has_room l (rw d (record { line = e; answer = rw d at h; short = omega arith }))
 
-  pub chart-prints : (n : ℕ) → 129 ≤ length line → st.done ≡ false → (code ≡ 0 → ⊥) → Put line 0 (chart_line code) now n → n ≤ 129 → r ≡ stepped n true st.at st.run → Answers
+  pub chart-prints : (n : ℕ) (f : List ℕ) → 129 ≤ length line → now ≡ f ++ drop 129 line → st.done ≡ false → (code ≡ 0 → ⊥) → Put (take 129 line) 0 (chart_line code) f n → n ≤ 129
+      → r ≡ stepped n true st.at st.run → Answers
   unfolding next_line next_standing
-  chart-prints n l d z p m q =
-      has_room l (rw (d, ne_eqb code 0 z) (put-prints line (chart_line code) now n true st.at st.run r p m q))
+  chart-prints n f l e d z p m q =
+      front-prints f l (rw (d, ne_eqb code 0 z) (put-prints (take 129 line) (chart_line code) f n true st.at st.run r p m q)) e
 
-  pub call-prints : 129 ≤ length line → st.done ≡ false → code ≡ 0
-      → Prints line (line_for c st.at st.run (call_at s st.at)) (standing_for c st.at st.run (call_at s st.at)) now r → Answers
+  pub call-prints : (f : List ℕ) → 129 ≤ length line → now ≡ f ++ drop 129 line → st.done ≡ false → code ≡ 0
+      → Prints (take 129 line) (line_for c st.at st.run (call_at s st.at)) (standing_for c st.at st.run (call_at s st.at)) f r → Answers
   unfolding next_line next_standing
-  call-prints l d z p = has_room l (rw (d, z) p)
+  call-prints f l e d z p = front-prints f l (rw (d, z) p) e

@@ -16,11 +16,11 @@ use Rattle.run.specs.Belongs.{belongs}
 use Rattle.run.specs.declared.run.Run.{Run}
 use Rattle.run.proofs.belongs.Laws.{none-own}
 use Rattle.cycle.specs.Cycling.{start_of, cycle_of}
-use Rattle.cycle.specs.declared.cycling.Cycled.{Cycled}
+use Rattle.cycle.specs.Answer.{Cycled}
 use Rattle.cycle.proofs.cycling.Kept.{start-belongs, cycle-keeps}
 use Rattle.trace.specs.Tracing.{call_at}
-use Rattle.trace.specs.declared.tracing.Call.{Call}
-use Rattle.trace.specs.declared.tracing.Call.TheVariants.{Start, Cycle, End, Refused}
+use Rattle.trace.specs.Answer.{Call}
+use Rattle.trace.specs.Answer.{Start, Cycle, End, Refused}
 use Rattle.trace.proofs.tracing.Laws.{after-start, after-cycle}
 use Rattle.tally.specs.Tallying.{tally_of}
 use Rattle.lines.specs.Lines.{chart_line}

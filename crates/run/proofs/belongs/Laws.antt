@@ -1,19 +1,20 @@
--- What a run that belongs to a chart is, and the counts that do not fit.
-use Prim.Native.Nat.{ℕ, ◌+◌}
-use mathlib.Core.Bool.{Bool, true, false, ◌&&◌, not, cond}
-use mathlib.Core.List.{List}
+-- What a run that belongs to a chart is.
+use Prim.Native.Nat.{ℕ}
+use mathlib.Core.Bool.{Bool, true, false, ◌&&◌}
 use mathlib.Core.Path.{◌≡◌, refl}
-use lib.Dec.{eqb, leb}
-use lib.ListN.{get_or}
-use borrow.Author.Tests.{eqb-true}
+use native.Mathlib.Omega.{arith}
+use lib.Dec.{leb}
 use Rattle.sets.specs.Loops.{all}
-use Rattle.sets.specs.Sets.{has, Below, union}
-use Rattle.sets.proofs.Loops.{and-true, and_no, and_assoc}
+use Rattle.sets.specs.Sets.{Below, union}
+use Rattle.sets.proofs.Loops.{else-zero, and-true, and_assoc}
 use Rattle.sets.proofs.Members.{below_both}
 use Rattle.sets.proofs.Below.{below-zero}
+use Rattle.fields.specs.Fields.{unless}
+use Rattle.chart.specs.Held.{chart_code}
+use Rattle.chart.proofs.held.Sound.{fits}
 use Rattle.chart.specs.declared.chart.Chart.{Chart}
-use Rattle.run.specs.Run.{no_run, longest}
-use Rattle.run.specs.Belongs.{count_fits, counters_fit, timers_fit, names_fit, belongs}
+use Rattle.run.specs.Run.{no_run}
+use Rattle.run.specs.Belongs.{counters_fit, timers_fit, names_fit, belongs, own_code}
 use Rattle.run.specs.declared.run.Run.{Run}
 
 pub record Own (c : Chart) (r : Run) : Type 0 where
@@ -41,6 +42,12 @@ own c r e =
 
 pub is-own : (c : Chart) (r : Run) → Own c r → belongs c r ≡ true
 is-own c r o = rw (o.active, o.activity, o.stored, o.latched, o.good, o.bad, o.counters, o.timers, o.hold)
+
+-- what the test of both has passed
+pub own-tests : (c : Chart) (r : Run) → own_code c r ≡ 0 → (chart_code c ≡ 0) × (belongs c r ≡ true)
+own-tests c r e =
+    let z = else-zero (chart_code c) (unless (belongs c r) 12) e in
+    (z.0, fits (belongs c r) 12 (λ n. omega arith) z.1)
 
 -- the all-zero run belongs to every chart
 none-counters : counters_fit no_run.counters 0 ≡ true
@@ -75,33 +82,3 @@ names-joined steps actions cases active activity stored latched good bad =
     go : (a b c d e f : Bool) → (a && (b && c && d) && (e && f)) ≡ (a && b && c && d && e && f)
     go true b c d e f = and_assoc (b && c && d) e f
     go false b c d e f = refl
-
--- ---- how many counts do not fit: as many as are not 0, without the members' that fit
-
-abbrev pub one : Bool → ℕ
-one b = cond b 1 0
-
-abbrev pub nonzero : List ℕ → ℕ → Bool
-nonzero counts k = not (eqb (get_or counts k 0) 0)
-
-abbrev pub unfit : List ℕ → ℕ → ℕ → Bool
-unfit counts set k = not (count_fits set k (get_or counts k 0))
-
-zero-fits : (n : ℕ) → eqb n 0 ≡ true → leb n longest ≡ true
-zero-fits n e = rw (eqb-true n 0 e)
-
-module _ (counts : List ℕ) (set k : ℕ) where
-  pub unfit-outside : has set k ≡ false → one (nonzero counts k) ≡ one (unfit counts set k)
-  unfit-outside h = rw h (go (eqb (get_or counts k 0) 0) (leb (get_or counts k 0) longest) (zero-fits (get_or counts k 0)))
-    where
-      go : (z l : Bool) → (z ≡ true → l ≡ true) → one (not z) ≡ one (not (l && z))
-      go true l e = rw (e refl)
-      go false l e = rw (and_no l)
-
-  pub unfit-member : {b : Bool} {d : ℕ} → has set k ≡ true → b ≡ (nonzero counts k && leb (get_or counts k 0) longest) → d ≡ one b → one (nonzero counts k) ≡ one (unfit counts set k) + d
-  unfit-member h p q = rw (h, q, p) (go (eqb (get_or counts k 0) 0) (leb (get_or counts k 0) longest) (zero-fits (get_or counts k 0)))
-    where
-      go : (z l : Bool) → (z ≡ true → l ≡ true) → one (not z) ≡ one (not (l && true)) + one (not z && l)
-      go true l e = rw (e refl)
-      go false true e = refl
-      go false false e = refl

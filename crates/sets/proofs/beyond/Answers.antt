@@ -3,9 +3,6 @@ use Rattle.sets.proofs.Members.{shl-beyond, none-beyond}
 use borrow.Author.Rules.{rules}
 use Rattle.sets.proofs.beyond.Goals as goal
 
-pub overflow_shl-result : goal.overflow_shl-result
-overflow_shl-result c = search rules
-
 pub returns-then-n-lt64 : goal.returns-then-n-lt64
 returns-then-n-lt64 c = shl-beyond c.args.n (search rules)
 

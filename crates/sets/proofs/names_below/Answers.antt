@@ -3,9 +3,6 @@ use Rattle.sets.proofs.Members.{shr_below, all-below}
 use borrow.Author.Rules.{rules}
 use Rattle.sets.proofs.names_below.Goals as goal
 
-pub overflow_shr-result : goal.overflow_shr-result
-overflow_shr-result c = search rules
-
 pub returns-then-n-lt64 : goal.returns-then-n-lt64
 returns-then-n-lt64 c = shr_below c.args.s c.args.n (search rules)
 

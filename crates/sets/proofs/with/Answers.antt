@@ -3,9 +3,6 @@ use Rattle.sets.proofs.Members.{or-shl-insert, insert-beyond}
 use borrow.Author.Rules.{rules}
 use Rattle.sets.proofs.with.Goals as goal
 
-pub overflow_shl-result : goal.overflow_shl-result
-overflow_shl-result c = search rules
-
 pub returns-then-k-lt64 : goal.returns-then-k-lt64
 returns-then-k-lt64 c = or-shl-insert c.args.s c.args.k (search rules) (search rules)
 

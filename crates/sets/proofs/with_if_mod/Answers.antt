@@ -10,12 +10,6 @@ use Rattle.sets.proofs.Members.{or-shl-insert}
 use borrow.Author.Rules.{rules}
 use Rattle.sets.proofs.with_if_mod.Goals as goal
 
-pub overflow_cast-result : goal.overflow_cast-result
-overflow_cast-result c = search rules
-
-pub overflow_shl-result : goal.overflow_shl-result
-overflow_shl-result c = search rules
-
 put : (s k : ℕ) (b : Bool) → s < 2 ^ 64 → k < 64 → bit_or s (bool_byte b * 2 ^ k % 2 ^ 64) ≡ cond b (insert s k) s
 put s k true h l = or-shl-insert s k h l
 put s k false h l = ap (bit_or s) (ap (λ (x : ℕ). x % 2 ^ 64) (zero-mul (2 ^ k))) ∙ or_zero_r s

@@ -6,8 +6,5 @@ use Rattle.sets.proofs.without_first.Goals as goal
 pub returns-then-s-eq0 : goal.returns-then-s-eq0
 returns-then-s-eq0 c = rw c.if-s-eq0.true remove-zero
 
-pub overflow_sub-result : goal.overflow_sub-result
-overflow_sub-result c = search rules
-
 pub returns : goal.returns
 returns c = and-remove c.args.s (search rules) c.if-s-eq0.false

@@ -1,19 +1,13 @@
 -- The counts of ones are the counts of cases, for marks that name only cases.
 use Prim.Native.Nat.{ℕ, ◌-◌, ◌≤◌}
 use mathlib.Core.Bool.{Bool, true, false, ◌&&◌, ◌||◌, not}
-use mathlib.Core.Path.{◌≡◌, refl, ◌∙◌}
+use mathlib.Core.Path.{◌≡◌, refl}
 use native.Mathlib.Omega.{arith}
 use Rattle.sets.specs.Loops.{counted}
 use Rattle.sets.specs.Sets.{has, Below, union, minus, size}
 use Rattle.sets.proofs.Below.{below-union, below-minus, has-union, has-minus}
 use Rattle.sets.proofs.Counts.{size_below, counted_same, counted-not}
-use borrow.Author.Tests.{ne_eqb}
-use Rattle.chart.specs.Held.{chart_code}
-use Rattle.chart.specs.declared.chart.Chart.{Chart}
-use Rattle.run.specs.Belongs.{belongs}
-use Rattle.run.specs.declared.run.Run.{Run}
-use Rattle.tally.specs.Tallying.{is_passed, is_failed, is_not_run, counts_of, refused, tally_of}
-use Rattle.tally.specs.declared.tallying.Tallied.{Tallied}
+use Rattle.tally.specs.Tallying.{is_passed, is_failed, is_not_run}
 
 module _ (n good bad : ℕ) (h : n ≤ 64) (g : Below good n ≡ true) (b : Below bad n ≡ true) where
   pub passed_counted : size (minus good bad) ≡ counted (is_passed good bad) n
@@ -43,14 +37,3 @@ module _ (n good bad : ℕ) (h : n ≤ 64) (g : Below good n ≡ true) (b : Belo
       let f = counted-not ran n in
       let q = counted_same (λ k. not (ran k)) (is_not_run good bad) n (λ k l. otherwise (has good k) (has bad k)) in
       omega (arith, e, f, q)
-
--- ---- the tests in their order
-
-pub chart-refused : (c : Chart) (r : Run) (t : Tallied) (code : ℕ) → code ≡ chart_code c → (code ≡ 0 → ⊥) → t ≡ refused code → t ≡ tally_of c r
-chart-refused c r t code e z h = let n = ne_eqb (chart_code c) 0 (λ q. z (e ∙ q)) in h ∙ rw (e, n, n)
-
-pub run-refused : (c : Chart) (r : Run) (t : Tallied) → chart_code c ≡ 0 → belongs c r ≡ false → t ≡ refused 12 → t ≡ tally_of c r
-run-refused c r t e f h = h ∙ rw (e, f)
-
-pub accepted : (c : Chart) (r : Run) (t : Tallied) → chart_code c ≡ 0 → belongs c r ≡ true → t ≡ counts_of c.cases r.good r.bad → t ≡ tally_of c r
-accepted c r t e f h = h ∙ rw (e, f)

@@ -1,21 +1,23 @@
--- The sum over a list of weights, the first unbalanced transition, and the tests in their order.
-use Prim.Native.Nat.{ℕ, suc, ◌+◌, ◌-◌, ◌≤◌, min}
-use mathlib.Core.Bool.{Bool, true, false, cond}
-use mathlib.Core.List.{List}
-use mathlib.Core.Path.{◌≡◌, refl, sym, ◌∙◌}
-use native.Mathlib.Omega.{arith}
+-- The sum over a list of weights, the first unbalanced transition, and a chart that is refused.
+use Rattle.std.proofs.Common.{ℕ, suc, ◌≡◌, ◌+◌, ◌≤◌, min, Bool, true, false, cond, List, length, get_or, Result, Ok, Err, refl, sym, ap, ◌∙◌, arith}
+use Rattle.std.specs.Result.{IsErrAnd}
 use borrow.Author.Tests.{eq-eqb, ne_eqb}
-use lib.ListN.{length, get_or, get_or-eq_default}
+use lib.ListN.{get_or-eq_default}
 use Rattle.sets.specs.Loops.{summed}
 use Rattle.sets.specs.Sets.{has}
 use Rattle.sets.proofs.Counts.{summed_turn}
 use Rattle.sets.proofs.Loops.{capped}
+use Rattle.refusals.specs.declared.Refusal.{Refusal}
+use Rattle.refusals.specs.Refusals.{number}
+use Rattle.refusals.proofs.Laws.{number-some}
 use Rattle.fields.specs.Fields.{unless}
 use Rattle.chart.specs.Held.{chart_code}
 use Rattle.chart.specs.declared.chart.Chart.{Chart}
 use Rattle.chart.proofs.held.Each.{chart-most}
-use Rattle.tally.specs.Weighing.{weight_in, balanced, unbalanced_in, refused, weighed, weigh_of}
-use Rattle.tally.specs.declared.weighing.Weighed.{Weighed}
+use Rattle.tally.specs.Answer.{unweighed_of, weighed_of, names_14}
+use Rattle.tally.specs.Weighing.{weight_in, balanced, weigh_of}
+use Rattle.tally.specs.declared.answer.Unweighed.{Unweighed}
+use Rattle.tally.specs.declared.answer.Unweighed.TheVariants.{Refused, Unbalanced}
 
 -- what step k adds to the weight of the set s
 abbrev pub weight_at : List ℕ → ℕ → ℕ → ℕ
@@ -54,22 +56,22 @@ module _ (weights : List ℕ) (s t n : ℕ) {a b : ℕ} (e : a ≡ weight_in wei
   pub is-unbalanced : (a ≡ b → ⊥) → n ≡ unless (balanced weights s t) n
   is-unbalanced q = rw (ne_eqb _ _ (λ z. q (e ∙ z ∙ sym h)))
 
--- ---- the tests in their order
+-- ---- a chart that is refused
 
-module _ (c : Chart) (weights : List ℕ) (r : Weighed) where
-  -- a chart's number is 9 at most, so 14 is the weighing's own
-  pub chart-refused : (code : ℕ) → code ≡ chart_code c → (code ≡ 0 → ⊥) → r ≡ refused code 0 → r ≡ weigh_of c weights
-  chart-refused code e z h =
-      let n = ne_eqb (chart_code c) 0 (λ q. z (e ∙ q)) in
-      let m = chart-most c in
-      let k = ne_eqb (chart_code c) 14 (λ q. omega (arith, q, m)) in
-      h ∙ rw (e, n, n, k)
+-- a chart's number is 9 at most, so 14 is the weighing's own
+pub chart-refused : (c : Chart) (weights : List ℕ) (r : Result ℕ Unweighed) (e : Refusal) → IsErrAnd r (λ y. y ≡ Refused e) → number e ≡ chart_code c
+    → weighed_of r ≡ weigh_of c weights
+chart-refused c weights (Ok total) e h f = elim h [ ]
+chart-refused c weights (Err y) e h f =
+    let n = ne_eqb (chart_code c) 0 (λ q. number-some e (f ∙ q)) in
+    let m = chart-most c in
+    let k = ne_eqb (chart_code c) 14 (λ q. omega (arith, q, m)) in
+    ap unweighed_of h ∙ rw (f, n, n, k)
 
-  pub weights-refused : chart_code c ≡ 0 → (length weights ≡ c.steps → ⊥) → r ≡ refused 13 0 → r ≡ weigh_of c weights
-  weights-refused e z h = h ∙ rw (e, ne_eqb _ _ z)
-
-  pub balance-refused : (first : ℕ) → chart_code c ≡ 0 → length weights ≡ c.steps → first ≡ unbalanced_in c weights → (first ≡ 0 → ⊥) → r ≡ refused 14 (first - 1) → r ≡ weigh_of c weights
-  balance-refused first e l f z h = h ∙ rw (e, eq-eqb _ _ l, f, ne_eqb (unbalanced_in c weights) 0 (λ q. z (f ∙ q)))
-
-  pub accepted : chart_code c ≡ 0 → length weights ≡ c.steps → unbalanced_in c weights ≡ 0 → r ≡ weighed c weights → r ≡ weigh_of c weights
-  accepted e l f h = h ∙ rw (e, eq-eqb _ _ l, f)
+pub other_kind : (c : Chart) (r : Result ℕ Unweighed) (e : Refusal) → IsErrAnd r (λ y. y ≡ Refused e) → number e ≡ chart_code c → names_14 r
+other_kind c (Ok total) e h f = tt
+other_kind c (Err (Refused d)) e h f =
+    let m = chart-most c in
+    let same : number d ≡ chart_code c = rw (← f) (ap (λ (u : Unweighed). (unweighed_of u).code) h) in
+    λ n. omega (arith, m, same, n)
+other_kind c (Err (Unbalanced t)) e h f = tt

@@ -12,8 +12,8 @@ use Rattle.sets.proofs.Loops.{and-true, and_no}
 use Rattle.reader.specs.Numbers.{le_from}
 use Rattle.reader.proofs.numbers.Laws.{whole}
 use Rattle.trace.specs.Tracing.{kind_due, body_due, head_fits, record_fits, is_over, trace_number, record_at, call_at, clock_at, inputs_at}
-use Rattle.trace.specs.declared.tracing.Call.{Call}
-use Rattle.trace.specs.declared.tracing.Call.TheVariants.{Start, Cycle, End, Refused}
+use Rattle.trace.specs.Answer.{Call}
+use Rattle.trace.specs.Answer.{Start, Cycle, End, Refused}
 
 -- a body is due at each place
 pub due : (at : ℕ) → (4 ≤ body_due at) × (body_due at ≤ 8)

@@ -10,6 +10,11 @@ use native.Mathlib.Omega.{arith}
 use lib.Dec.{eqb}
 use lib.ListN.{length, get_or, length-append}
 use borrow.Author.Tests.{le-leb, lt-leb, eq-eqb, ne_eqb}
+use Rattle.std.proofs.Common.{Result, Ok, Err}
+use Rattle.std.specs.Result.{IsErrAnd}
+use Rattle.refusals.specs.declared.Refusal.{Refusal}
+use Rattle.refusals.specs.Refusals.{number}
+use Rattle.refusals.proofs.Laws.{number-some}
 use Rattle.sets.specs.Bytes.{Put}
 use Rattle.sets.proofs.Bytes.{put-put, put-none, put-kept}
 use Rattle.chart.specs.Held.{chart_code}
@@ -18,7 +23,7 @@ use Rattle.reader.specs.Framing.{record_bytes}
 use Rattle.reader.specs.Bodies.{record_of}
 use Rattle.judging.specs.declared.Body.{Body}
 use Rattle.writer.specs.Writing.{step_in, action_in, transition_in, block_in, case_in, edition_in, joined, records, step_records, action_records, transition_records, block_records, case_records, edition_records, file_of, file_length, write_code, wrote, refused, write_chart}
-use Rattle.writer.specs.declared.writing.Writing.{Writing}
+use Rattle.writer.specs.Answer.{Writing, writing_of}
 
 -- ---- pieces one behind the other
 
@@ -116,11 +121,14 @@ module _ (c : Chart) (lent : List ℕ) where
   by_code : (n : ℕ) (x : Writing × List ℕ) → n ≡ write_code c lent → x ≡ cond (eqb n 0) (wrote c lent) (refused n, lent) → x ≡ write_chart c lent
   by_code n x e h = h ∙ ap (λ (m : ℕ). cond {A = Writing × List ℕ} (eqb m 0) (wrote c lent) (refused m, lent)) e
 
-  pub chart-refused : {code : ℕ} {r : Writing} → code ≡ chart_code c → (code ≡ 0 → ⊥) → r ≡ refused code → ◌≡◌ {A = Writing × List ℕ} (r, lent) (write_chart c lent)
-  chart-refused {code} e z f = by_code code _ (e ∙ rw (ne_eqb (chart_code c) 0 (λ h. z (e ∙ h)))) (rw (f, ne_eqb code 0 z))
+  pub chart-refused : (r : Result ℕ Refusal) (e : Refusal) → IsErrAnd r (λ k. k ≡ e) → number e ≡ chart_code c → ◌≡◌ {A = Writing × List ℕ} (writing_of r, lent) (write_chart c lent)
+  chart-refused (Ok n) e i h = elim i [ ]
+  chart-refused (Err k) e i h =
+      let f = ap number i ∙ h in
+      by_code (number k) _ (f ∙ rw (ne_eqb (chart_code c) 0 (λ z. number-some k (f ∙ z)))) (rw (ne_eqb (number k) 0 (number-some k)))
 
-  pub too_few : {r : Writing} → chart_code c ≡ 0 → length lent < length (file_of c) → r ≡ refused 17 → ◌≡◌ {A = Writing × List ℕ} (r, lent) (write_chart c lent)
-  too_few e h f = by_code 17 _ (rw (eq-eqb (chart_code c) 0 e, lt-leb (length (file_of c)) (length lent) h)) (rw f)
+  pub too_few : chart_code c ≡ 0 → length lent < length (file_of c) → ◌≡◌ {A = Writing × List ℕ} (refused 17, lent) (write_chart c lent)
+  too_few e h = by_code 17 _ (rw (eq-eqb (chart_code c) 0 e, lt-leb (length (file_of c)) (length lent) h)) refl
 
   pub written : {l : List ℕ} {end : ℕ} → chart_code c ≡ 0 → length (file_of c) ≤ length lent → Put lent 0 (file_of c) l end
       → ◌≡◌ {A = Writing × List ℕ} (record { code = 0; length = end }, l) (write_chart c lent)

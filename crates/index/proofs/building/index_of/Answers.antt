@@ -1,12 +1,7 @@
--- By the chart's own number.
-use borrow.Author.Rules.{rules}
+-- By the chart's own number: zeros, or the index.
+use Rattle.std.proofs.Common.{ap}
+use Rattle.index.specs.Building.{indexed_as}
 use Rattle.index.proofs.building.index_of.Goals as goal
 
-pub chart_code-requires : goal.chart_code-requires
-chart_code-requires c = search rules
-
-pub built_after-requires : goal.built_after-requires
-built_after-requires c = search rules
-
 pub returns : goal.returns
-returns c = rw c.chart_code.ensures at c.built_after.ensures
+returns c = rw (← c.in_ok-check.ensures) (ap (indexed_as 0) c.leaving_of.ensures.0)

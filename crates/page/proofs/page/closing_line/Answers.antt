@@ -1,22 +1,22 @@
--- By the weighing's number.
-use borrow.Author.Tests.{ne_eqb}
-use native.Mathlib.Omega.{arith}
+-- By what the weighing answered.
+use Rattle.std.proofs.Common.{ap, ◌∙◌, arith}
 use Rattle.lines.specs.Lines.{text, named_line}
 use Rattle.page.specs.Page.{initial_line, closing_line}
-use Rattle.page.proofs.page.Laws.{named-line-short, puts-line, side-ends}
+use Rattle.page.proofs.page.Laws.{named-line-short, puts-line, put_as, side-ends, closing-refused}
 use Rattle.page.proofs.page.closing_line.Goals as goal
 
-pub returns-then-weighed-eq0 : goal.returns-then-weighed-eq0
+pub returns-in-Ok : goal.returns-in-Ok
 unfolding closing_line initial_line
-returns-then-weighed-eq0 c =
+returns-in-Ok c =
     let a = c.args in
     let p = c.side_line.ensures in
-    (rw c.if-weighed-eq0.true p, side-ends a.line.now (text "initial") a.initial a.weights.now p (omega arith))
+    (rw c.in-Ok.is p, side-ends a.line.now (text "initial") a.initial a.weights.now p (omega arith))
 
-pub returns : goal.returns
-unfolding closing_line
-returns c =
+pub returns-in-Err : goal.returns-in-Err
+returns-in-Err c =
     let a = c.args in
     let name = text "refused weights 14 transition " in
-    rw (ne_eqb a.weighed.code 0 c.if-weighed-eq0.false)
-    (puts-line 51 a.line.now (named_line name a.weighed.transition) c.put_line.ensures (named-line-short name a.weighed.transition) (omega arith) c.requires)
+    let t = c.transition_of-transition.result in
+    rw c.in-Err.is
+    (put_as a.line.now (ap (named_line name) c.transition_of-transition.ensures ∙ closing-refused a.initial a.weights.now c.in-Err.unweighed)
+    (puts-line 51 a.line.now (named_line name t) c.put_line.ensures (named-line-short name t) (omega arith) (omega arith)))

@@ -21,9 +21,6 @@ stepped : (c : After-put_steps-last) → Put c.args.line.now c.args.at c.args.na
     → c.put_steps-last.result ≤ c.args.at + (length c.args.name.now + 192)
 stepped c n = omega (arith, c.put_steps-last.ensures.1, n.1, steps-short c.args.set)
 
-pub put_steps-last-requires : goal.put_steps-last-requires
-put_steps-last-requires c = omega (arith, (named (goal.at.put_steps-last-requires c).After-put-first).1, c.put-first.auto.line, c.requires)
-
 pub returns : goal.returns
 unfolding side
 returns c =

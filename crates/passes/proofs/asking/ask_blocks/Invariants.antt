@@ -1,10 +1,10 @@
-use Rattle.std.proofs.Common.{◌≡◌, ◌-◌, ◌≤◌}
+use Rattle.std.proofs.Common.{◌≡◌}
+use Rattle.run.specs.Apart.{counts_of, times_of}
 use Rattle.acting.specs.Acting.{asked as so_far}
 use Rattle.passes.specs.Rests.{rests}
 use Rattle.passes.proofs.asking.ask_blocks.Given as goal
 
 abbrev pub invariant-loop-i : goal.invariant-loop-i
-invariant-loop-i l = (l.asked ≡ so_far l.i (rests 64 l.blockstep) (rests 32 l.blockaction) l.qualifier l.duration l.counts l.times l.steps) × (l.i ≤ l.last)
-
-abbrev pub decreases-loop-i : goal.decreases-loop-i
-decreases-loop-i l = l.last - l.i
+invariant-loop-i l =
+    let c = l.chart in
+    l.asked ≡ so_far l.i (rests 64 c.blockstep) (rests 32 c.blockaction) c.qualifier c.duration (counts_of l.counters) (times_of l.timers) l.steps

@@ -1,10 +1,11 @@
 use Rattle.sets.proofs.Visits.{Led}
+use Rattle.run.specs.Apart.{counts_of}
 use Rattle.choice.specs.Choice.{choosing_at, chosen_from}
 use Rattle.passes.proofs.choosing.choose_from.Given as goal
 
-abbrev pub invariant-loop-rest : goal.invariant-loop-rest
-invariant-loop-rest l =
-    Led (choosing_at l.edition l.sources l.targets l.on l.off l.wait l.counts l.active l.signals) l.consulted l.rest (chosen_from l.edition l.consulted l.sources l.targets l.on l.off l.wait l.counts l.active l.signals) l.choice
-
-abbrev pub decreases-loop-rest : goal.decreases-loop-rest
-decreases-loop-rest l = l.rest
+abbrev pub invariant-loop-t : goal.invariant-loop-t
+invariant-loop-t l =
+    let c = l.chart in
+    let r = l.run in
+    let counts = counts_of r.counters in
+    Led (choosing_at c.edition c.sources c.targets c.on c.off c.wait counts r.active l.signals) l.consulted l.t-iterator.rest (chosen_from c.edition l.consulted c.sources c.targets c.on c.off c.wait counts r.active l.signals) l.choice

@@ -1,16 +1,6 @@
 -- By its callees' statements; those that stayed run on, and the other targets are entered.
-use Rattle.std.proofs.Common.{rules}
 use Rattle.passes.proofs.choosing.Laws.{entered-did-not-stay, stayed-run-on}
 use Rattle.passes.proofs.choosing.steps_of.Goals as goal
-
-pub without-stayed-requires : goal.without-stayed-requires
-without-stayed-requires c = search rules
-
-pub joined-requires : goal.joined-requires
-joined-requires c = search rules
-
-pub without-requires : goal.without-requires
-without-requires c = search rules
 
 pub returns : goal.returns
 returns c =

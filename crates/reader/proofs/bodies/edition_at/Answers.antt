@@ -3,10 +3,5 @@ use borrow.Author.Rules.{rules}
 use Rattle.reader.proofs.bodies.Laws.{edition-fields}
 use Rattle.reader.proofs.bodies.edition_at.Goals as goal
 
-pub bounds-bytes-at : goal.bounds-bytes-at
-bounds-bytes-at c = search rules
-
 pub returns : goal.returns
-returns c =
-    let a = c.args in
-    rw (edition-fields a.bytes.now a.at) (search rules)
+returns c = rw (edition-fields c.args.bytes.now c.args.at) (search rules)

@@ -10,7 +10,6 @@ pub returns : goal.returns
 unfolding accepted_line
 returns c =
     let a = c.args in
-    let h = c.requires in
     let l = line_on (no_line a.line.now) 20 (decimal a.number) c.put_decimal-a.ensures (decimal-short 20 a.number) (omega arith) in
     let m = line_on l 17 (text " " ++ hex 16 a.active) c.put_word-b.ensures (word-short 16 a.active) (omega arith) in
     let n = line_on m 9 (text " " ++ hex 8 a.activity) c.put_word-c.ensures (word-short 8 a.activity) (omega arith) in

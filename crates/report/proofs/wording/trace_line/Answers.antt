@@ -7,6 +7,5 @@ use Rattle.report.proofs.wording.trace_line.Goals as goal
 pub returns : goal.returns
 unfolding trace_line
 returns c =
-    let h = c.requires in
     let l = line_on (no_line c.args.line.now) 17 trace_line c.put.ensures (omega arith) (omega arith) in
     (l.put, omega (arith, l.within))

@@ -36,4 +36,4 @@ returns c =
     let b = later-body a.at c.if-at-eq0.false in
     cycles a.trace.now a.at _ _ (omega arith) e c.if-at-eq0.false
     (c.u32_from-clock.ensures ∙ whole 4 a.trace.now (a.at + 4) (omega arith))
-    (c.u32_from.ensures ∙ whole 4 a.trace.now (a.at + 8) (omega arith))
+    (c.u32_from-inputs.ensures ∙ whole 4 a.trace.now (a.at + 8) (omega arith))

@@ -1,10 +1,7 @@
-use Prim.Native.Nat.{◌-◌}
-use lib.ListN.{length}
+-- The lines so far are read.
+use Rattle.std.proofs.Common.{length}
 use Rattle.weights.proofs.listing.Laws.{Read}
 use Rattle.weights.proofs.listing.list.Given as goal
 
-abbrev pub invariant-loop-at : goal.invariant-loop-at
-invariant-loop-at l = Read l.text l.initial.weights l.at l.line l.fault l.weights l.count
-
-abbrev pub decreases-loop-at : goal.decreases-loop-at
-decreases-loop-at l = length l.text - l.at
+abbrev pub invariant-loop-k : goal.invariant-loop-k
+invariant-loop-k l = Read l.text l.initial.weights (length l.yielded) l.fault l.weights l.count

@@ -1,34 +1,13 @@
--- All bytes passed are of the class.
-use native.Mathlib.Omega.{arith}
-use mathlib.Core.Path.{sym, ◌∙◌}
-use borrow.Author.Rules.{rules}
-use Rattle.weights.proofs.words.Laws.{passed_start, passed-more, passed-stop, passed-end}
+-- The position of the first byte that is not such.
+use Rattle.std.proofs.Common.{rules, not, ◌∙◌}
+use borrow.Author.Tests.{tests}
+use Rattle.std.proofs.lemmas.Iterator.{YieldsList-from_slice}
+use Rattle.std.proofs.lemmas.Iterator.Search.{position_from_yields_List}
+use Rattle.weights.proofs.words.Laws.{leading-found}
 use Rattle.weights.proofs.words.leading.Goals as goal
 
-pub loop-i-init : goal.loop-i-init
-loop-i-init c = passed_start _ _
-
-pub bounds-s-i : goal.bounds-s-i
-bounds-s-i c = omega arith
-
-pub is_of-requires : goal.is_of-requires
-is_of-requires c = search rules
-
-pub returns-then-not-is_of : goal.returns-then-not-is_of
-returns-then-not-is_of c =
-    let l = c.loop-i in
-    passed-stop _ _ l.i l.invariant (omega arith) (sym (c.if-not-is_of.true) ∙ c.is_of.ensures)
-
-pub overflow_add-i : goal.overflow_add-i
-overflow_add-i c = omega arith
-
-pub loop-i-smaller : goal.loop-i-smaller
-loop-i-smaller c = omega arith
-
-pub loop-i-preserved : goal.loop-i-preserved
-loop-i-preserved c =
-    let l = c.loop-i in
-    passed-more _ _ l.i l.invariant (omega arith) (sym (c.if-not-is_of.false) ∙ c.is_of.ensures)
-
-pub returns : goal.returns
-returns c = passed-end _ _ _ c.loop-i.invariant (omega arith)
+pub returns-clause-number : goal.returns-clause-number
+returns-clause-number g c = λ p h.
+    c.unwrap_or.ensures
+    ∙ leading-found p c.args.s.now c.position.result
+    (position_from_yields_List (λ b. not (p b)) _ _ c.position.result c.position.ensures.ran (YieldsList-from_slice c.args.s.now cc) (λ x b q k. search (rules, tests, h)))

@@ -1,25 +1,15 @@
 -- The head and then the fields.
 use mathlib.Core.List.{[], ◌∷◌}
 use native.Mathlib.Omega.{arith}
-use borrow.Author.Rules.{rules}
 use Rattle.sets.proofs.Bytes.{put-put}
 use Rattle.reader.specs.Numbers.{numbers_bytes}
 use Rattle.reader.specs.Framing.{record_bytes}
+use Rattle.writer.proofs.records.Laws.{byte}
 use Rattle.writer.proofs.records.put_case.Goals as goal
-
-pub put_head-body-requires : goal.put_head-body-requires
-put_head-body-requires c = search rules
-
-pub put_three-requires : goal.put_three-requires
-put_three-requires c = search rules
-
-pub shape_of-bytes : goal.shape_of-bytes
-shape_of-bytes c = search rules
 
 pub returns : goal.returns
 returns c =
-    let body = c.before.before in
-    let head = body.before.before.before.before in
-    let a = head.args in
-    put-put a.bytes.now a.at (record_bytes 5 []) (numbers_bytes (1 ∷ 1 ∷ 1 ∷ []) (a.step ∷ a.signal ∷ a.expected ∷ []))
-    head.put_head-body.ensures body.put_three.ensures (omega arith)
+    let a = c.args in
+    let k = a.case in
+    put-put a.bytes.now a.at (record_bytes 5 []) (numbers_bytes (1 ∷ 1 ∷ 1 ∷ []) (k.step ∷ k.signal ∷ k.expected ∷ []))
+    c.put_head-body.ensures (rw (byte k.step (omega arith), byte k.signal (omega arith), byte k.expected (omega arith)) c.put.ensures) (omega arith)

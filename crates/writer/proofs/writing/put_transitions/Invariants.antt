@@ -1,10 +1,6 @@
-use Prim.Native.Nat.{◌-◌}
 use Rattle.writer.specs.Writing.{transition_in}
 use Rattle.writer.proofs.writing.Laws.{Passed, record_in}
 use Rattle.writer.proofs.writing.put_transitions.Given as goal
 
-abbrev pub invariant-loop-i : goal.invariant-loop-i
-invariant-loop-i l = Passed (record_in (transition_in l.sources l.targets l.on l.off l.wait)) l.initial.bytes l.at l.n l.bytes l.end l.i
-
-abbrev pub decreases-loop-i : goal.decreases-loop-i
-decreases-loop-i l = l.n - l.i
+abbrev pub invariant-loop-t : goal.invariant-loop-t
+invariant-loop-t l = Passed (record_in (transition_in l.chart.sources l.chart.targets l.chart.on l.chart.off l.chart.wait)) l.initial.bytes l.at l.chart.transitions l.bytes l.end l.t

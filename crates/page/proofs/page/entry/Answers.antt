@@ -1,7 +1,0 @@
--- The test says whether there is one.
-use mathlib.Core.Path.{sym}
-use lib.ListN.{get_or-eq_default}
-use Rattle.page.proofs.page.entry.Goals as goal
-
-pub returns-else-k-table : goal.returns-else-k-table
-returns-else-k-table c = sym (get_or-eq_default c.args.table.now 0 c.if-k-table.false)
