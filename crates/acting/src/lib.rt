@@ -5,7 +5,7 @@ ghost use Rattle.std.specs.Prelude.{◌≡◌, ◌%◌, get_or};
 ghost use Rattle.run.specs.Apart.{counts_of, times_of};
 ghost use Rattle.acting.specs.Acting.{kept_count, none_asked, putting, request_at, acted};
 
-use fields::{Block, Qualifier};
+use fields::Qualifier;
 use run::run::{ActionTimer, StepCounter};
 
 // The steps that blocks go by: active now, entered, left, and those whose counter runs on.
@@ -62,40 +62,42 @@ fn time_of(action: usize, timers: &[ActionTimer; 32]) -> u32
 
 // Each qualifier asks only what it needs: most blocks of a chart go by one membership alone. The numbers of a chart that passed its test are
 // below 64 and 32; of any other the rest counts, so that none is tested here.
+// By numbers and not by `Block`, since it takes any step and action: what may not change (this clause).
 pub fn asks(
-    block: Block,
+    step: usize,
+    action: usize,
+    qualifier: u8,
+    duration: u32,
     counters: &[StepCounter; 64],
     timers: &[ActionTimer; 32],
     steps: Steps,
 ) -> Request
-    ensures { result ≡ request_at (block.step % 64) block.qualifier block.duration (get_or (counts_of counters.now) (block.step % 64) 0) (get_or (times_of timers.now) (block.action % 32) 0) steps }
+    ensures { result ≡ request_at (step % 64) qualifier duration (get_or (counts_of counters.now) (step % 64) 0) (get_or (times_of timers.now) (action % 32) 0) steps }
 {
-    let step = block.step as usize;
-    let action = block.action as usize;
-    match Qualifier::try_from(block.qualifier) {
+    match Qualifier::try_from(qualifier) {
         Ok(Qualifier::N) => Request::Want(sets::is_in_mod(steps.active, step)),
         Ok(Qualifier::R) => Request::Reset(sets::is_in_mod(steps.active, step)),
         Ok(Qualifier::S) => Request::Set(sets::is_in_mod(steps.active, step)),
         Ok(Qualifier::L) => {
             let count = count_of(steps.kept, step, counters);
-            Request::Want(sets::is_in_mod(steps.active, step) & (count < block.duration))
+            Request::Want(sets::is_in_mod(steps.active, step) & (count < duration))
         }
         Ok(Qualifier::D) => {
             let count = count_of(steps.kept, step, counters);
-            Request::Want(sets::is_in_mod(steps.active, step) & (block.duration <= count))
+            Request::Want(sets::is_in_mod(steps.active, step) & (duration <= count))
         }
         Ok(Qualifier::P) => Request::Want(sets::is_in_mod(steps.entered, step)),
         Ok(Qualifier::Sd) => Request::Latch(
             sets::is_in_mod(steps.active, step),
-            block.duration <= time_of(action, timers),
+            duration <= time_of(action, timers),
         ),
         Ok(Qualifier::Ds) => {
             let count = count_of(steps.kept, step, counters);
-            Request::Set(sets::is_in_mod(steps.active, step) & (block.duration <= count))
+            Request::Set(sets::is_in_mod(steps.active, step) & (duration <= count))
         }
         Ok(Qualifier::Sl) => Request::Latch(
             sets::is_in_mod(steps.active, step),
-            time_of(action, timers) < block.duration,
+            time_of(action, timers) < duration,
         ),
         Ok(Qualifier::P1) => Request::Want(sets::is_in_mod(steps.entered, step)),
         Ok(Qualifier::P0) => Request::Want(sets::is_in_mod(steps.left, step)),

@@ -2,19 +2,12 @@
 #![tactic(auto)]
 
 use chart::Chart;
-use refusals::Refusal;
 use report::wording::LINE;
 use std::fs::Files;
 use std::io::{Print, Read};
 
 // Lines are gathered in a lent buffer (no heap), and written as it fills; a failed write ends the run.
-fn print_run(
-    rt: &impl Print,
-    reading: Result<(), Refusal>,
-    chart: &Chart,
-    trace: &[u8],
-    out: &mut [u8],
-) {
+fn print_run(rt: &impl Print, code: u8, chart: &Chart, trace: &[u8], out: &mut [u8]) {
     let mut standing = report::opening();
     let mut used = 0;
     // Until the last line is out: there is nothing to count.
@@ -23,7 +16,7 @@ fn print_run(
         if out.len() - used < LINE {
             return;
         }
-        used += report::print_next(reading, chart, trace, &mut standing, &mut out[used..]);
+        used += report::print_next(code, chart, trace, &mut standing, &mut out[used..]);
     }
     // Nothing is printed behind these lines, so a failure changes nothing.
     let _ = rt.write_all(&out[..used]);
@@ -40,8 +33,9 @@ fn bench(
     let n = console::read_chart_file(rt, file);
     let mut chart = Chart::empty(0);
     let reading = reader::read_into(&file[..n], &mut chart).map_err(|fault| fault.refusal);
+    let code = refusals::code_of(reading);
     let m = console::read_full(stdin, input);
-    print_run(rt, reading, &chart, &input[..m], out);
+    print_run(rt, code, &chart, &input[..m], out);
 }
 
 fn main(rt: HostRuntime) {

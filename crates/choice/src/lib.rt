@@ -54,7 +54,7 @@ fn is_ripe(wait: u32, sources: u64, counters: &[StepCounter; 64]) -> bool
     true
 }
 
-// The targets that are tested: none in the second edition (document 02, request viii).
+// The targets that are tested: none in the second edition (document 02, request viii). It is a byte: the C interface, where any may be lent.
 fn tested(edition: u8, targets: u64) -> u64
     ensures { result ≡ tested edition targets }
 {

@@ -37,7 +37,7 @@ impl Reason {
     }
 }
 
-// As the bytes of a call have it: 0 is taken.
+// As the bytes of a call have it, the C interface's: 0 is taken.
 fn number_of(why: Option<Reason>) -> u8
     ensures { result ≡ number_of why }
 {

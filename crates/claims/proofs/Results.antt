@@ -99,7 +99,7 @@ results = record {
     explain = λ chart counters active signals r q. one_answer;
     hold_all = λ n r q. one_answer;
   };
-  acting = record { asks = λ block counters timers steps r q. one_answer; none = λ r q. one_answer };
+  acting = record { asks = λ step action qualifier duration counters timers steps r q. one_answer; none = λ r q. one_answer };
   index = record {
     leaving_of = λ n sources r q e f. one_answer e.0 f.0;
     index_of = index-of-unique;
@@ -149,7 +149,7 @@ results = record {
   };
   writer = record { write_chart = write-chart-one };
   report = record {
-    print_next = λ reading chart trace standing line r q f g e h.
+    print_next = λ code chart trace standing line r q f g e h.
         let answer = one_answer e.0 h.0 in
         let bytes = one_answer e.1 h.1 in
         (ap (λ (p : Printed). p.length) answer, λ i. ((answer i).standing, bytes i));

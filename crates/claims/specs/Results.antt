@@ -179,8 +179,8 @@ pub record ChoiceResults : Type 0 where
 
 -- acting/src/lib.rt
 pub record ActingResults : Type 0 where
-  pub asks : (block : Block) (counters : List StepCounter) (timers : List ActionTimer) (steps : Steps)
-      → One (λ (r : Request). r ≡ request_at (block.step % 64) block.qualifier block.duration (get_or (counts_of counters) (block.step % 64) 0) (get_or (times_of timers) (block.action % 32) 0) steps)
+  pub asks : (step action qualifier duration : ℕ) (counters : List StepCounter) (timers : List ActionTimer) (steps : Steps)
+      → One (λ (r : Request). r ≡ request_at (step % 64) qualifier duration (get_or (counts_of counters) (step % 64) 0) (get_or (times_of timers) (action % 32) 0) steps)
   pub none : One (λ (r : Asked). r ≡ none_asked)
 
 -- index/src: building, consulting
@@ -259,8 +259,8 @@ pub record WriterResults : Type 0 where
 
 -- report/src: printing
 pub record ReportResults : Type 0 where
-  pub print_next : (reading : Outcome) (chart : Chart) (trace : List ℕ) (standing : Standing) (line : List ℕ)
-      → Both (λ (r : ℕ) (exit : Standing × List ℕ). (printed_as r exit.0 ≡ printed_of (length line) (code_of reading) chart trace standing) × (exit.1 ≡ line_after (code_of reading) chart trace standing line) × (r ≤ length line))
+  pub print_next : (code : ℕ) (chart : Chart) (trace : List ℕ) (standing : Standing) (line : List ℕ)
+      → Both (λ (r : ℕ) (exit : Standing × List ℕ). (printed_as r exit.0 ≡ printed_of (length line) code chart trace standing) × (exit.1 ≡ line_after code chart trace standing line) × (r ≤ length line))
 
 -- weights/src: listing, words
 pub record WeightsResults : Type 0 where

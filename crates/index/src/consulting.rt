@@ -21,6 +21,7 @@ fn are_same(own: &[u64; 64], index: &[u64]) -> bool
     same
 }
 
+// By a count and the table, as `leaving_of`.
 fn is_index(n: usize, sources: &[u64; 64], index: &[u64]) -> bool
     ensures { (result ≡ is_index n sources.now index.now) × (result ≡ true → all (λ t. ltb (get_or sources.now t 0) (2 ^ 64)) (min n 64) ≡ true) }
 {

@@ -9,6 +9,8 @@ use cycle::Cycle;
 use refusals::Refusal;
 use run::Run;
 
+// Document 01's lent run: its contract and the edits of this crate are of this function and the next, so they stay beside `calls::cycle`: what may not
+// change.
 pub fn advance(
     chart: &Chart,
     run: &mut Run,

@@ -1,7 +1,7 @@
 -- What the program heard, with the numbers of the definitions; and what it hears, as that.
 use Rattle.std.specs.Prelude.{ℕ, ◌+◌, min, Option, Some, None}
-use Rattle.refusals.specs.Refusals.{code_of}
-use Rattle.tally.specs.Answer.{Weighed, weighed_of}
+use Rattle.tally.specs.Answer.{Weighed}
+use Rattle.page.specs.declared.page.Weighed.{Weighed as Answered}
 use Rattle.page.specs.declared.page.Heard.{Heard as Told}
 
 -- the number of the chart's reading, how long the text of the weights is, its first faulty line, from 1 on, 0 if there is none, and what the weighing answered
@@ -16,5 +16,8 @@ abbrev pub line_number : Option ℕ → ℕ
 line_number None = 0
 line_number (Some k) = min (k + 1) 18446744073709551615
 
+abbrev pub weighed_as : Answered → Weighed
+weighed_as w = record { code = w.code; transition = w.transition; total = w.total }
+
 abbrev pub heard_as : Told → Heard
-heard_as h = record { code = code_of h.reading; length = h.length; fault = line_number h.fault; weighed = weighed_of h.weighed }
+heard_as h = record { code = h.code; length = h.length; fault = line_number h.fault; weighed = weighed_as h.weighed }

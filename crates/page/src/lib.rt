@@ -4,4 +4,4 @@
 pub mod page;
 pub mod sides;
 
-pub use page::{Heard, LINE, LINES, page_line};
+pub use page::{Heard, LINE, LINES, Weighed, page_line};

@@ -2,14 +2,11 @@
 ghost use Rattle.std.specs.Prelude.{◌≤◌, ◌≡◌, length, get_or};
 ghost use Rattle.sets.specs.Bytes.{Put};
 ghost use Rattle.lines.specs.Lines.{Puts};
-ghost use Rattle.tally.specs.Answer.{unweighed_of, weighed_of};
-ghost use Rattle.page.specs.Answer.{heard_as};
+ghost use Rattle.page.specs.Answer.{weighed_as, heard_as};
 ghost use Rattle.page.specs.Page.{transition_line, is_apart, pair_at, closing_line, is_refused, refusal_line, line_at, page_line};
 
 use crate::sides;
 use chart::Chart;
-use refusals::Refusal;
-use tally::Unweighed;
 
 // The most that a line takes, with the room that its parts ask for.
 pub const LINE: usize = 512;
@@ -17,13 +14,24 @@ pub const LINE: usize = 512;
 // The most lines that a page has: a line for each transition, the one below them, and one for each pair of steps, i * 64 + j.
 pub const LINES: usize = 4161;
 
-// What the program heard: the chart's reading, how long the text of the weights is, the place of its first faulty line, from 0 on, and what the weighing answered.
+// What the weighing answered: its number, the transition that it names with 14, and the initial total.
+// By numbers, of which any may be told: what may not change (page_line's clause).
+#[derive(Clone, Copy, Debug, PartialEq, Eq)]
+pub struct Weighed {
+    pub code: u8,
+    pub transition: usize,
+    pub total: u32,
+}
+
+// What the program heard: the number of the chart's reading, how long the text of the weights is, the place of its first faulty line, from 0 on, and what the
+// weighing answered.
+// By numbers, of which any may be told: what may not change (page_line's clause).
 #[derive(Clone, Copy, Debug, PartialEq, Eq)]
 pub struct Heard {
-    pub reading: Result<(), Refusal>,
+    pub code: u8,
     pub length: usize,
     pub fault: Option<usize>,
-    pub weighed: Result<u32, Unweighed>,
+    pub weighed: Weighed,
 }
 
 fn transition_line(
@@ -64,31 +72,14 @@ fn pair_line(line: &mut [u8; LINE], pair: usize, weights: &[u16], total: u32) ->
     0
 }
 
-// The transition that a refused weighing names.
-fn transition_of(unweighed: Unweighed) -> usize
-    ensures { result ≡ (unweighed_of unweighed).transition }
+fn closing_line(line: &mut [u8; LINE], initial: u64, weights: &[u16], weighed: Weighed) -> usize
+    ensures { Put line.old 0 (closing_line initial weights.now (weighed_as weighed)) line.new result × (result ≤ 512) }
 {
-    match unweighed {
-        Unweighed::Unbalanced { transition } => transition,
-        Unweighed::Refused(_) => 0,
+    if weighed.code == 0 {
+        return sides::side_line(line, b"initial", initial, weights);
     }
-}
-
-fn closing_line(
-    line: &mut [u8; LINE],
-    initial: u64,
-    weights: &[u16],
-    weighed: Result<u32, Unweighed>,
-) -> usize
-    ensures { Put line.old 0 (closing_line initial weights.now (weighed_of weighed)) line.new result × (result ≤ 512) }
-{
-    match weighed {
-        Ok(_) => sides::side_line(line, b"initial", initial, weights),
-        Err(unweighed) => {
-            let transition = transition_of(unweighed) as u64;
-            lines::put_line(line, 0, b"refused weights 14 transition ", transition)
-        }
-    }
+    let transition = weighed.transition as u64;
+    lines::put_line(line, 0, b"refused weights 14 transition ", transition)
 }
 
 // An entry of a table, 0 behind its end.
@@ -103,10 +94,10 @@ fn line_at(
     chart: &Chart,
     initial: u64,
     weights: &[u16],
-    weighed: Result<u32, Unweighed>,
+    weighed: Weighed,
     k: usize,
 ) -> usize
-    ensures { Put line.old 0 (line_at chart.now.transitions chart.now.sources chart.now.targets initial weights.now (weighed_of weighed) k) line.new result × (result ≤ 512) }
+    ensures { Put line.old 0 (line_at chart.now.transitions chart.now.sources chart.now.targets initial weights.now (weighed_as weighed) k) line.new result × (result ≤ 512) }
 {
     let n = chart.transitions;
     if k < n {
@@ -117,29 +108,23 @@ fn line_at(
     if k == n {
         return closing_line(line, initial, weights, weighed);
     }
-    match weighed {
-        Ok(total) => pair_line(line, k - n - 1, weights, total),
-        Err(_) => 0,
+    if weighed.code == 0 {
+        return pair_line(line, k - n - 1, weights, weighed.total);
     }
+    0
 }
 
 fn is_refused(heard: &Heard) -> bool
     ensures { result ≡ is_refused (heard_as heard.now) }
 {
-    heard.reading.is_err()
-        || 65536 <= heard.length
-        || heard.fault.is_some()
-        || matches!(
-            heard.weighed,
-            Err(Unweighed::Refused(Refusal::WrongWeights))
-        )
+    heard.code != 0 || 65536 <= heard.length || heard.fault.is_some() || heard.weighed.code == 13
 }
 
 fn refusal_line(line: &mut [u8; LINE], heard: &Heard) -> usize
     ensures { Put line.old 0 (refusal_line (heard_as heard.now)) line.new result × (result ≤ 512) }
 {
-    if let Err(refusal) = heard.reading {
-        return lines::chart_line(line, 0, refusal.number());
+    if heard.code != 0 {
+        return lines::chart_line(line, 0, heard.code);
     }
     if 65536 <= heard.length {
         return lines::put(line, 0, b"refused weights too long\n");

@@ -19,7 +19,15 @@ pub fn ask_blocks(
     let mut asked = Asked::none();
     for i in 0..chart.blocks.min(256) {
         let block = chart.block(i);
-        let request = acting::asks(block, counters, timers, steps);
+        let request = acting::asks(
+            block.step as usize,
+            block.action as usize,
+            block.qualifier,
+            block.duration,
+            counters,
+            timers,
+            steps,
+        );
         asked = acting::put(asked, block.action as usize % 32, request);
     }
     asked

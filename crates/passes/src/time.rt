@@ -12,7 +12,7 @@ pub fn elapsed(last: u32, new: u32) -> u32
     new.wrapping_sub(last)
 }
 
-// Under hold step counters stand still; action timers go by all that has elapsed.
+// Under hold step counters stand still; action timers go by all that has elapsed. The mark is a byte: the C interface, where any may be lent.
 pub fn step_time(hold: u8, e: u32) -> u32
     ensures { result ≡ step_time hold e }
 {

@@ -1,7 +1,6 @@
 // The printed run, a call's lines at a time: the caller keeps where the printing stands, and lends it again.
 ghost use Rattle.std.specs.Prelude.{ℕ, false, ◌≤◌, ◌<◌, ◌++◌, ◌≡◌, length, get_or};
 ghost use Rattle.sets.specs.Bytes.{Put};
-ghost use Rattle.refusals.specs.Refusals.{code_of};
 ghost use Rattle.cycle.specs.Answer.{cycled_as, started_as};
 ghost use Rattle.tally.specs.Answer.{tallied_of};
 ghost use Rattle.trace.specs.Tracing.{call_at};
@@ -121,16 +120,17 @@ fn print_call(chart: &Chart, trace: &[u8], standing: &mut Standing, line: &mut [
     }
 }
 
-// The next line of the run of a chart whose reading answered this, with a cycle's second line behind it. A buffer of fewer than 129 bytes
+// The next line of the run of a chart that was read with this number, with a cycle's second line behind it. A buffer of fewer than 129 bytes
 // is refused: nothing moves, and nothing is printed.
+// By any number: what may not change (this clause, printed_of).
 pub fn print_next(
-    reading: Result<(), Refusal>,
+    code: u8,
     chart: &Chart,
     trace: &[u8],
     standing: &mut Standing,
     line: &mut [u8],
 ) -> usize
-    ensures { (printed_as result standing.new ≡ printed_of (length line.old) (code_of reading) chart.now trace.now standing.old) × (line.new ≡ line_after (code_of reading) chart.now trace.now standing.old line.old) × (result ≤ length line.old) }
+    ensures { (printed_as result standing.new ≡ printed_of (length line.old) code chart.now trace.now standing.old) × (line.new ≡ line_after code chart.now trace.now standing.old line.old) × (result ≤ length line.old) }
 {
     let Some(front) = line.first_chunk_mut::<LINE>() else {
         return 0;
@@ -138,9 +138,9 @@ pub fn print_next(
     if standing.done {
         return 0;
     }
-    if let Err(refusal) = reading {
+    if code != 0 {
         standing.done = true;
-        return lines::chart_line(front, 0, refusal.number());
+        return lines::chart_line(front, 0, code);
     }
     print_call(chart, trace, standing, front)
 }

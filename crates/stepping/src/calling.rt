@@ -11,6 +11,7 @@ use run::Run;
 // "11 elapsed time above 60,000 ms"
 const MINUTE: u32 = 60_000;
 
+// Clocks, inputs and activities are three lists, as document 02 and the C interface lend them.
 // 15, the chart, the index and 12 are tested once, before the first: a run that an accepted cycle left passes them again. An empty list is no index.
 pub fn cycles_on(
     chart: &Chart,

@@ -29,12 +29,8 @@ pub fn settle(
     ensures acts { result ≡ acted (asked (min chart.now.blocks 256) (rests 64 chart.now.blockstep) (rests 32 chart.now.blockaction) chart.now.qualifier chart.now.duration (counts_of counters.now) (times_of timers.now) (all_kept steps)) stored latched }
     ensures writes { outputs.new ≡ written (min chart.now.actions 32) (rests 32 chart.now.output) chart.now.value result.activity outputs.old }
 {
-    let now = Steps {
-        active: steps.active,
-        entered: steps.entered,
-        left: steps.left,
-        kept: u64::MAX,
-    };
+    let mut now = steps;
+    now.kept = u64::MAX;
     let acts = acting::act(
         passes::ask_blocks(chart, counters, timers, now),
         stored,

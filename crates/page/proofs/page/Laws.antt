@@ -12,10 +12,7 @@ use Rattle.sets.specs.Bytes.{over, Put}
 use Rattle.lines.specs.Lines.{text, decimal, named_line, chart_line, Puts}
 use Rattle.lines.proofs.Laws.{named-short, no_line, line_on, put-there}
 use Rattle.tally.specs.Weighing.{balanced}
-use Rattle.tally.specs.Answer.{Weighed, unweighed_of}
-use Rattle.tally.specs.declared.answer.Unweighed.{Unweighed}
-use Rattle.tally.specs.declared.answer.Unweighed.TheVariants.{Refused, Unbalanced}
-use Rattle.refusals.proofs.Laws.{number-some}
+use Rattle.tally.specs.Answer.{Weighed}
 use Rattle.page.specs.Page.{transition_line, closing_line, pair_at, too_long, fault_line, wrong_count, is_refused, refusal_line, line_at, page_line}
 use Rattle.page.specs.Sides.{side}
 use Rattle.page.specs.Answer.{Heard}
@@ -107,16 +104,3 @@ module _ (h : Heard) where
   pub refused-count : h.code ≡ 0 → h.length < 65536 → h.fault ≡ 0 → wrong_count ≡ refusal_line h
   unfolding refusal_line
   refused-count e l z = rw (e, lt-leb 65536 h.length l, z)
-
--- ---- the numbers of what is answered
-
--- no weighing that is refused has the number of one that isn't
-pub not-weighed : (u : Unweighed) → (unweighed_of u).code ≡ 0 → ⊥
-not-weighed (Refused e) h = number-some e h
-not-weighed (Unbalanced t) h = cc
-
--- and below the transitions it names what it names
-pub closing-refused : (initial : ℕ) (weights : List ℕ) (u : Unweighed)
-    → named_line (text "refused weights 14 transition ") (unweighed_of u).transition ≡ closing_line initial weights (unweighed_of u)
-unfolding closing_line
-closing-refused initial weights u = rw (ne_eqb (unweighed_of u).code 0 (not-weighed u))
