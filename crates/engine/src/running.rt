@@ -10,6 +10,22 @@ ghost use Rattle.engine.specs.Lent.{ShiftLeft, shift_left};
 use chart::Chart;
 use run::Run;
 
+// Field by field: what lies between the fields of C's struct belongs to none of them, and stays.
+fn put(run: &mut Run, started: &Run)
+    ensures { run.new ≡ started.now }
+{
+    run.clock = started.clock;
+    run.active = started.active;
+    run.activity = started.activity;
+    run.stored = started.stored;
+    run.latched = started.latched;
+    run.counters = started.counters;
+    run.timers = started.timers;
+    run.good = started.good;
+    run.bad = started.bad;
+    run.hold = started.hold;
+}
+
 // Start: the number.
 #[unsafe(no_mangle)]
 pub extern "C" fn tolwaziho_start(
@@ -22,11 +38,11 @@ pub extern "C" fn tolwaziho_start(
 {
     match calls::start(chart, clock, outputs) {
         Ok(started) => {
-            *run = started;
+            put(run, &started);
             0
         }
         Err(refusal) => {
-            *run = Run::zero();
+            put(run, &Run::zero());
             refusal.number()
         }
     }

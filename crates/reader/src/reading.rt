@@ -109,14 +109,41 @@ fn read_records(bytes: &[u8], chart: &mut Chart) -> Result<(), Fault>
     Ok(())
 }
 
+// Field by field: what lies between the fields of a struct that C lends belongs to none of them, and stays.
+fn clear(chart: &mut Chart, edition: u8)
+    ensures { chart.new ≡ empty_chart edition }
+{
+    chart.steps = 0;
+    chart.actions = 0;
+    chart.transitions = 0;
+    chart.blocks = 0;
+    chart.cases = 0;
+    chart.initial = [0; 64];
+    chart.output = [0; 32];
+    chart.value = [0; 32];
+    chart.sources = [0; 64];
+    chart.targets = [0; 64];
+    chart.on = [0; 64];
+    chart.off = [0; 64];
+    chart.wait = [0; 64];
+    chart.blockstep = [0; 256];
+    chart.blockaction = [0; 256];
+    chart.qualifier = [0; 256];
+    chart.duration = [0; 256];
+    chart.casestep = [0; 64];
+    chart.signal = [0; 64];
+    chart.expected = [0; 64];
+    chart.edition = edition;
+}
+
 // The chart may hold anything. "A refused reading returns an all-zero chart and a place"
 pub fn read_into(bytes: &[u8], chart: &mut Chart) -> Result<(), Fault>
     ensures { reading_in result chart.new ≡ read_chart bytes.now }
 {
-    *chart = Chart::empty(1);
+    clear(chart, 1);
     let answer = read_records(bytes, chart);
     if answer.is_err() {
-        *chart = Chart::empty(0);
+        clear(chart, 0);
     }
     answer
 }
