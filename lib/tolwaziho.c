@@ -3,6 +3,40 @@
 
 #include "entries.h"
 
+/* The entries take the structs as they lie: each field where the layout that C and the toolchain share puts it on an x86-64 machine. */
+#define LIES(struct_, field, at) _Static_assert(offsetof(struct struct_, field) == (at), #field)
+LIES(tw_chart, steps, 0);
+LIES(tw_chart, actions, 8);
+LIES(tw_chart, transitions, 16);
+LIES(tw_chart, blocks, 24);
+LIES(tw_chart, cases, 32);
+LIES(tw_chart, initial, 40);
+LIES(tw_chart, output, 104);
+LIES(tw_chart, value, 136);
+LIES(tw_chart, sources, 264);
+LIES(tw_chart, targets, 776);
+LIES(tw_chart, on, 1288);
+LIES(tw_chart, off, 1800);
+LIES(tw_chart, wait, 2312);
+LIES(tw_chart, blockstep, 2568);
+LIES(tw_chart, blockaction, 2824);
+LIES(tw_chart, qualifier, 3080);
+LIES(tw_chart, duration, 3336);
+LIES(tw_chart, casestep, 4360);
+LIES(tw_chart, signal, 4424);
+LIES(tw_chart, expected, 4488);
+LIES(tw_chart, edition, 4552);
+LIES(tw_run, clock, 0);
+LIES(tw_run, active, 8);
+LIES(tw_run, activity, 16);
+LIES(tw_run, stored, 24);
+LIES(tw_run, latched, 32);
+LIES(tw_run, counters, 40);
+LIES(tw_run, timers, 296);
+LIES(tw_run, good, 424);
+LIES(tw_run, bad, 432);
+LIES(tw_run, hold, 440);
+
 /* An index as INDEX has it, and none: of its words, which are as valid as any, no one is read. */
 #define INDEX_OF(x) (x)->leaving, TW_STEPS
 #define NO_INDEX(c) (c)->sources, 0

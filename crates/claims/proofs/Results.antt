@@ -113,7 +113,11 @@ results = record {
     write_outputs = λ out chart activity f g. one_answer;
     explain = λ chart run clock inputs r q. one_answer;
   };
-  cycle = record { ready = λ chart index run lent r q e f. code-one r q (one_answer e.0 f.0) };
+  cycle = record {
+    Stopped-from = λ refusal r q. one_answer;
+    Refusal-from = λ stopped r q. one_answer;
+    ready = λ chart index run lent r q e f. code-one r q (one_answer e.0 f.0);
+  };
   stepping = record {
     settle = λ outputs chart counters timers steps stored latched.
         with_it (λ (x : Acted). written (min chart.actions 32) (rests 32 chart.output) chart.value x.activity outputs)
@@ -142,8 +146,9 @@ results = record {
         (u.0, λ i. (u.1 i, u.2 i, u.3 i));
   };
   trace = record { call_at = call-at-unique };
-  tally = record { tally = tally-unique; weigh = weigh-unique };
+  tally = record { Unweighed-from = λ refusal r q. one_answer; tally = tally-unique; weigh = weigh-unique };
   adding = record {
+    Unadded-from = λ refusal r q. one_answer;
     add_steps = λ n first second sum r q f g. add-steps-unique n first second sum f g r q;
     add = λ chart first second sum r q f g. add-unique chart first second sum f g r q;
   };

@@ -69,9 +69,11 @@ use Rattle.tally.specs.Weighing.{weigh_of}
 use Rattle.tally.specs.Answer.{tallied_of, weighed_of, names_14}
 use Rattle.tally.specs.declared.answer.Tally.{Tally}
 use Rattle.tally.specs.declared.answer.Unweighed.{Unweighed}
+use Rattle.tally.specs.declared.answer.Unweighed.TheVariants.{Refused as unweighed}
 use Rattle.adding.specs.Adding.{added_after, add_of, sum_after, sum_of}
 use Rattle.adding.specs.Answer.{added_from, which}
 use Rattle.adding.specs.declared.adding.Unadded.{Unadded}
+use Rattle.adding.specs.declared.adding.Unadded.TheVariants.{Refused as unadded}
 use Rattle.writer.specs.Writing.{write_chart}
 use Rattle.writer.specs.Answer.{Writing, writing_of}
 use Rattle.report.specs.Printing.{printed_of, line_after}
@@ -204,8 +206,10 @@ pub record PassesResults : Type 0 where
   pub explain : (chart : Chart) (run : Run) (clock inputs : ℕ)
       → One (λ (r : List ℕ). r ≡ reasons_of run.hold chart.edition chart.transitions chart.sources chart.targets chart.on chart.off chart.wait (grown_counts run.counters run.active (step_time run.hold (elapsed run.clock clock))) run.active (signals_of inputs run.activity))
 
--- cycle/src: cycling
+-- cycle/src: calling, cycling
 pub record CycleResults : Type 0 where
+  pub Stopped-from : (refusal : Refusal) → One (λ (r : Stopped). r ≡ record { refusal = refusal; accepted = 0 })
+  pub Refusal-from : (stopped : Stopped) → One (λ (r : Refusal). r ≡ stopped.refusal)
   pub ready : (chart : Chart) (index : List ℕ) (run : Run) (lent : ℕ) → One (λ (r : Outcome). (code_of r ≡ ready_by chart index run lent) × (code_of r ≡ 0 → consultable chart.transitions chart.sources index ≡ true))
 
 -- stepping/src: calling, stepping
@@ -241,13 +245,15 @@ pub record ShiftResults : Type 0 where
 pub record TraceResults : Type 0 where
   pub call_at : (trace : List ℕ) (at : ℕ) → One (λ (r : Result (Option TraceCall) Refusal). (call_of r ≡ call_at trace at) × (code_of r ≡ trace_number trace at))
 
--- tally/src: tallying, weighing
+-- tally/src: answer, tallying, weighing
 pub record TallyResults : Type 0 where
+  pub Unweighed-from : (refusal : Refusal) → One (λ (r : Unweighed). r ≡ unweighed refusal)
   pub tally : (chart : Chart) (run : Run) → One (λ (r : Result Tally Refusal). tallied_of r ≡ tally_of chart run)
   pub weigh : (chart : Chart) (weights : List ℕ) → One (λ (r : Result ℕ Unweighed). (weighed_of r ≡ weigh_of chart weights) × names_14 r)
 
 -- adding/src: adding
 pub record AddingResults : Type 0 where
+  pub Unadded-from : (refusal : Refusal) → One (λ (r : Unadded). r ≡ unadded refusal)
   pub add_steps : (n : ℕ) (first second sum : List ℕ)
       → Both (λ (r : Result (Unit {0}) Unadded) (exit : List ℕ). (added_from r ≡ added_after 0 n first second (length sum)) × (exit ≡ sum_after 0 n first second sum) × which 0 r)
   pub add : (chart : Chart) (first second sum : List ℕ)
