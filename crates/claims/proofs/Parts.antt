@@ -1,6 +1,6 @@
--- Laws of a run taken apart, its words beside its counters and timers, that docs/landings/ix.md and docs/DECISIONS.md name. The code changes a run where it lies
--- and needs them no more.
-use Prim.Native.Nat.{ℕ, zero, suc, ◌≤◌, min, max}
+-- Laws of a run taken apart, its words beside its counters and timers, that docs/landings/ix.md, docs/DECISIONS.md and docs/ARCHITECTURE.md name. The code changes a
+-- run where it lies and needs them no more.
+use Prim.Native.Nat.{ℕ, zero, suc, ◌%◌, ◌^◌, ◌≤◌, ◌<◌, min, max}
 use mathlib.Core.List.{List, [], ◌∷◌}
 use mathlib.Core.Bool.{Bool, true, false, ◌||◌, cond}
 use mathlib.Core.Path.{◌≡◌, refl, sym, ap, ap₂, ◌∙◌}
@@ -11,21 +11,30 @@ use lib.Seq.{take-length}
 use lib.Dec.{leb, eqb}
 use borrow.Author.Tests.{leb-true, eq-eqb, eqb-true, eqb-false, ne_eqb}
 use Rattle.sets.specs.Loops.{or_else, turns, some as some_of}
-use Rattle.sets.proofs.Loops.{else-none, else-zero, length-table}
+use Rattle.sets.specs.Sets.{has, minus}
+use Rattle.sets.proofs.Loops.{else-none, else-zero, length-table, get_or-table, is-table}
+use Rattle.sets.proofs.Members.{has-mod}
 use Rattle.fields.specs.Fields.{unless}
 use Rattle.chart.specs.Held.{largest, initial_at, some_initial, steps_code}
 use Rattle.chart.specs.declared.chart.Chart.{Chart}
 use Rattle.chart.proofs.held.Laws.{largest-code}
-use Rattle.run.specs.Apart.{run_of}
+use Rattle.acting.specs.Acting.{kept_count}
+use Rattle.run.specs.Run.{counter, timer, longer_counter, longer_timer}
+use Rattle.run.specs.Apart.{run_of, counters_of, timers_of}
 use Rattle.run.specs.Answer.{Words}
 use Rattle.run.specs.declared.run.Run.{Run}
+use Rattle.run.specs.declared.run.StepCounter.{StepCounter}
+use Rattle.run.specs.declared.run.ActionTimer.{ActionTimer}
 use Rattle.run.proofs.apart.Laws.{put-together}
 use Rattle.passes.specs.Explaining.{kept_if}
+use Rattle.passes.specs.Time.{grown_counts, grown_times}
+use Rattle.passes.specs.Moving.{settled_counters, settled_timers, cleared}
 use Rattle.cycle.specs.Cycling.{refused, ready_code, indexed_code, cycle_code, cycled, cycle_of, outputs_after, cycle_on_by, why_in}
 use Rattle.cycle.specs.Calling.{Calls, no_calls, onward, singly, calls_on, calls_by, InParts, in_parts}
 use Rattle.cycle.specs.Answer.{Cycled}
 use Rattle.cycle.proofs.cycling.Laws.{stops}
 use Rattle.cycle.proofs.calling.Laws.{made_of, none-called, once_by}
+use Rattle.cycle.proofs.stepping.Laws.{cleared_at}
 use Rattle.shift.specs.Shifting.{Done, answer_of, done_of, lists_fit, lists_code, clocks_taken, shift_of, shift_by}
 use Rattle.shift.proofs.shifting.Laws.{fit, before-any}
 
@@ -197,6 +206,24 @@ module _ (c : Chart) (index : List ℕ) (r : Run) (clocks inputs words : List �
       ∙ ap₂ {C = Done} (λ (p : InParts) (x : Run). (answer_of (or_else p.0.code lists) p.0.accepted x, p.3, p.4)) h (put_back c run (some c r clocks inputs words out lists) inputs words out (parts-long w counts times) index g next h q)
       ∙ ap (λ (x : Run). told c r clocks inputs words out lists (made x (some c r clocks inputs words out lists))) (sym e)
       ∙ all-told-by
+
+-- ---- counters and timers that have grown and are cleared where they do not run on are what runs on, of a run that passed no test too
+
+pub counts-now : (active kept gone e : ℕ) (old : List StepCounter) (counts now : List ℕ) → counts ≡ grown_counts old active e → gone ≡ minus active kept → now ≡ cleared counts gone
+    → (k : ℕ) → k < 64 → get_or now k 0 ≡ kept_count kept k (get_or counts k 0)
+counts-now active kept gone e old counts now p q r k m =
+    rw (r, p, q) (cleared_at 64 active kept (minus active kept) (λ j. (longer_counter e (get_or old j (counter 0))).0) (omega arith) (λ j l. refl) k m)
+
+pub times-now : (latched kept gone e : ℕ) (old : List ActionTimer) (times now : List ℕ) → times ≡ grown_times old latched e → gone ≡ minus latched kept → now ≡ cleared times (gone % 2 ^ 32)
+    → (k : ℕ) → k < 32 → get_or now k 0 ≡ kept_count kept k (get_or times k 0)
+times-now latched kept gone e old times now p q r k m =
+    rw (r, p, q) (cleared_at 32 latched kept (minus latched kept % 2 ^ 32) (λ j. (longer_timer e (get_or old j (timer 0))).0) (omega arith) (λ j l. has-mod 32 (minus latched kept) j l) k m)
+
+pub settled-counts : (kept : ℕ) (now l : List ℕ) → ((k : ℕ) → k < 64 → get_or now k 0 ≡ kept_count kept k (get_or l k 0)) → counters_of now ≡ settled_counters l kept
+settled-counts kept now l h = is-table _ 64 (counters_of now) (counter 0) (length-table _ 64) (λ k m. get_or-table (λ j. counter (get_or now j 0)) 64 k (counter 0) m ∙ ap counter (h k m))
+
+pub settled-times : (kept : ℕ) (now l : List ℕ) → ((k : ℕ) → k < 32 → get_or now k 0 ≡ kept_count kept k (get_or l k 0)) → timers_of now ≡ settled_timers l kept
+settled-times kept now l h = is-table _ 32 (timers_of now) (timer 0) (length-table _ 32) (λ k m. get_or-table (λ j. timer (get_or now j 0)) 32 k (timer 0) m ∙ ap timer (h k m))
 
 -- ---- the held test
 

@@ -42,7 +42,7 @@ module _ (n set kept gone : ℕ) (f : ℕ → ℕ) (few : n ≤ 64) (same : (k :
   abbrev grown : List ℕ
   grown = table (λ k. cond (has set k) (f k) 0) n
 
-  cleared_at : (k : ℕ) → k < n → get_or (cleared grown gone) k 0 ≡ kept_count kept k (get_or grown k 0)
+  pub cleared_at : (k : ℕ) → k < n → get_or (cleared grown gone) k 0 ≡ kept_count kept k (get_or grown k 0)
   cleared_at k m =
       get_or-table (λ j. cond (has gone j) 0 (get_or grown j 0)) (length grown) k 0 (rw (length-table (λ j. cond (has set j) (f j) 0) n) m)
       ∙ rw (same k m, has-minus set kept k (omega arith), get_or-table (λ j. cond (has set j) (f j) 0) n k 0 m) (runs_on (has set k) (has kept k) (f k))
