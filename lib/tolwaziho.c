@@ -36,6 +36,7 @@ LIES(tw_run, timers, 296);
 LIES(tw_run, good, 424);
 LIES(tw_run, bad, 432);
 LIES(tw_run, hold, 440);
+_Static_assert(sizeof(struct tw_chart) == 4560 && sizeof(struct tw_run) == 448, "as large as the toolchain's, which `engine` tests");
 
 /* An index as INDEX has it, and none: of its words, which are as valid as any, no one is read. */
 #define INDEX_OF(x) (x)->leaving, TW_STEPS

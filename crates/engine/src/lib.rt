@@ -5,3 +5,11 @@
 pub mod indexing;
 pub mod running;
 pub mod turning;
+
+use chart::Chart;
+use run::Run;
+
+// As large as C's structs, whose fields `lib/tolwaziho.c` tests one by one.
+const _: () = prove!(size_of::<Chart>() == 4560);
+
+const _: () = prove!(size_of::<Run>() == 448);
